@@ -1,0 +1,31 @@
+//! The types of the nucleus, of linked programs and of class files, and the traits of the outside.
+#![tactic(auto)]
+
+mod act;
+mod class_file;
+mod gate;
+mod ids;
+mod listed;
+mod program;
+mod shelf;
+mod sink;
+mod states;
+mod value;
+
+pub use act::{Act, Entry, History, Reason, Refusal, Reply};
+pub use class_file::{ClassFile, Code, Constant, Instr, Member, Range};
+pub use gate::{Gate, OpenGate};
+pub use ids::{CallId, ClassId, DomainId, MethodId, ObjectId, ServiceId, ThreadId};
+pub use listed::{Cells, Entries, Listed, Name, Nodes, Numbers, Text};
+pub use program::{
+    Class, Declared, Field, Method, Plan, Program, Resolved, Selector, System, Template,
+};
+pub use shelf::{Fetch, HonestShelf, MAX_FILE, MemoryShelf, Shelf};
+pub use sink::{Failed, MemorySink, Sink};
+pub use states::{AnswerKind, CallState, DomainState, Exported, ThreadState, Why};
+pub use value::{Node, Parcel, Value, Word};
+
+use std::alloc::AllocError;
+
+/// Memory was refused.
+pub type OutOfMemory = AllocError;
