@@ -1,5 +1,6 @@
 pub mod Faults
 pub mod Files
 pub mod Puts
-pub mod Putting
+pub mod Texts
 pub mod InMemory
+pub mod ClassNames

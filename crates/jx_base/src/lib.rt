@@ -3,6 +3,7 @@
 
 mod act;
 mod class_file;
+mod class_name;
 mod gate;
 mod ids;
 mod listed;
@@ -14,18 +15,18 @@ mod value;
 
 pub use act::{Act, Entry, History, Reason, Refusal, Reply};
 pub use class_file::{ClassFile, Code, Constant, Instr, Member, Range};
+pub use class_name::is_class_name;
 pub use gate::{Gate, OpenGate};
 pub use ids::{CallId, ClassId, DomainId, MethodId, ObjectId, ServiceId, ThreadId};
-pub use listed::{Cells, Entries, Listed, Name, Nodes, Numbers, Text};
+pub use listed::{Cells, Entries, Listed, Name, Nodes, Numbers, Text, text_of};
 pub use program::{
     Class, Declared, Field, Method, Plan, Program, Resolved, Selector, System, Template,
 };
 pub use shelf::{Fetch, HonestShelf, MAX_FILE, MemoryShelf, Shelf};
 pub use sink::{Failed, MemorySink, Sink};
 pub use states::{AnswerKind, CallState, DomainState, Exported, ThreadState, Why};
-pub use value::{Node, Parcel, Value, Word};
-
 use std::alloc::AllocError;
+pub use value::{Node, Parcel, Value, Word};
 
 /// Memory was refused.
 pub type OutOfMemory = AllocError;

@@ -1,8 +1,10 @@
 //! Small types over a `Vec` or a `String` that contracts see as lists.
-ghost use Rattle.std.specs.Prelude.{◌≡◌, string_bytes};
+ghost use Rattle.std.specs.Prelude.{◌≡◌, IfOk, string_bytes};
 
+use crate::OutOfMemory;
 use crate::act::Entry;
 use crate::value::{Node, Word};
+use std::alloc::Global;
 use std::marker::Model;
 
 /// A `Vec` that contracts see as the list of its items.
@@ -47,6 +49,17 @@ impl<T> Listed<T> {
 
 /// A text of UTF-16 units. A surrogate may stand alone.
 pub type Text = Listed<u16>;
+
+/// The text whose units are the bytes of one in ASCII.
+pub fn text_of(alloc: Global, ascii: &str) -> Result<Text, OutOfMemory>
+    ensures { IfOk result (λ text. text ≡ ascii.now) }
+{
+    let mut units = Vec::with_capacity(alloc, ascii.len())?;
+    for byte in ascii.as_bytes() {
+        units.push(u16::from(*byte))?;
+    }
+    Ok(Listed::from_vec(units))
+}
 
 /// The roots of a parcel, or the cells of a node.
 pub type Cells = Listed<Word>;

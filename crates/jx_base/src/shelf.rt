@@ -112,10 +112,10 @@ impl Model for MemoryShelf {
     ghost Value = { ShelfState };
 
     ghost view = { λ shelf. record {
-        files = file_entries shelf.files.items;
-        failing = shelf.failing.items;
-        calls = shelf.calls;
-        faults = shelf.faults
+      files = file_entries shelf.files.items;
+      failing = shelf.failing.items;
+      calls = shelf.calls;
+      faults = shelf.faults;
     } };
 }
 

@@ -43,11 +43,11 @@ impl Model for MemorySink {
     ghost Value = { SinkState };
 
     ghost view = { λ sink. record {
-        taken = sink.taken.items;
-        room = sink.room;
-        failing = sink.failing.items;
-        calls = sink.calls;
-        faults = sink.faults
+      taken = sink.taken.items;
+      room = sink.room;
+      failing = sink.failing.items;
+      calls = sink.calls;
+      faults = sink.faults;
     } };
 
     ghost invariant = { λ sink. (length sink.taken.items ≤ sink.room) × (sink.room ≤ vec_capacity sink.taken) };

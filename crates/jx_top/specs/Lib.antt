@@ -1,0 +1,4 @@
+pub mod Words
+pub mod FirstRun
+pub mod Outcome
+pub mod Lines

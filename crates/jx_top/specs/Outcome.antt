@@ -1,0 +1,85 @@
+-- What a run comes to, and why.
+use Rattle.std.specs.Prelude.{◌≡◌, ℕ, List, Option, Some, None, Result, Ok, Err, Vec, IsSomeAnd, string_bytes}
+use Rattle.std.specs.declared.alloc.Global.{Global}
+use Rattle.jx_base.specs.Files.{Files, HasLongFile}
+use Rattle.jx_base.specs.Puts.{TookPrefix, with_bytes}
+use Rattle.class_reader.specs.FirstClass.{first_bytes, first_class}
+use Rattle.jx_base.specs.declared.class_file.ClassFile.{ClassFile}
+use Rattle.jx_top.specs.FirstRun.{own_name}
+use Rattle.jx_top.specs.Words.{IsFileOf}
+use Rattle.jx_top.specs.declared.status.Status.{Status}
+use Rattle.jx_top.specs.declared.status.Status.TheVariants as status
+
+-- the bytes are those of the first class, and it has this name
+abbrev pub IsKnownClass : List ℕ → List ℕ → Type 0
+IsKnownClass bytes name = (bytes ≡ first_bytes) × (own_name first_class ≡ Some name)
+
+abbrev pub IsUnknownClass : List ℕ → List ℕ → Type 0
+IsUnknownClass bytes name = IsKnownClass bytes name → ⊥
+
+-- the file is there, and holds the class of its name
+pub record HasClass (files : Files) (file : List ℕ) : Type 0 where
+  pub name : List ℕ
+  pub is_file_of : IsFileOf file name
+  pub bytes : List ℕ
+  pub found : files file ≡ Some bytes
+  pub known : IsKnownClass bytes name
+
+abbrev pub HasClassWhereTold : Option Files → List ℕ → Type 0
+HasClassWhereTold (Some files) file = HasClass files file
+HasClassWhereTold None file = Unit {0}
+
+-- why a run of the file ended so, where the shelf tells its files
+abbrev pub HasToldCause : Files → List ℕ → Status → Type 0
+HasToldCause files file status.Done = HasClass files file
+HasToldCause files file status.Usage = ⊥
+HasToldCause files file status.ShelfFault = Unit {0}
+HasToldCause files file (status.Missing n) = (string_bytes n ≡ file) × (files file ≡ None)
+HasToldCause files file (status.TooLong n) = (string_bytes n ≡ file) × HasLongFile files file
+HasToldCause files file status.SinkFault = HasClass files file
+HasToldCause files file (status.NotYet n) =
+    IsFileOf file (string_bytes n) × IsSomeAnd (files file) (λ bytes. IsUnknownClass bytes (string_bytes n))
+HasToldCause files file status.OutOfMemory = Unit {0}
+
+-- the same, whether it tells them or not
+abbrev pub HasCause : Option Files → List ℕ → Status → Type 0
+HasCause (Some files) file outcome = HasToldCause files file outcome
+HasCause None file status.Usage = ⊥
+HasCause None file _ = Unit {0}
+
+-- what a sink holds at the end: after Done a text more, after SinkFault a prefix of one, else nothing more
+abbrev pub Leaves : Option (List ℕ) → Option (List ℕ) → Status → Type 0
+Leaves before now status.Done = (text : List ℕ) × (now ≡ with_bytes before text)
+Leaves before now status.SinkFault = (text : List ℕ) × TookPrefix before text now
+Leaves before now _ = now ≡ before
+
+-- the bytes of the file, or why there are none
+abbrev pub FindsBytes : Option Files → List ℕ → Result (Vec ℕ Global) Status → Type 0
+FindsBytes (Some files) file (Ok v) = files file ≡ Some v.items
+FindsBytes None file (Ok v) = Unit {0}
+FindsBytes told file (Err status.ShelfFault) = Unit {0}
+FindsBytes told file (Err status.OutOfMemory) = Unit {0}
+FindsBytes told file (Err (status.Missing n)) = HasCause told file (status.Missing n)
+FindsBytes told file (Err (status.TooLong n)) = HasCause told file (status.TooLong n)
+FindsBytes told file (Err outcome) = ⊥
+
+-- the class of that name that the bytes hold, or why there is none
+abbrev pub HoldsClass : List ℕ → List ℕ → Result ClassFile Status → Type 0
+HoldsClass name bytes (Ok file) = IsKnownClass bytes name × (file ≡ first_class)
+HoldsClass name bytes (Err (status.NotYet n)) = (string_bytes n ≡ name) × IsUnknownClass bytes name
+HoldsClass name bytes (Err status.OutOfMemory) = Unit {0}
+HoldsClass name bytes (Err outcome) = ⊥
+
+-- the class of the file, or why there is none
+abbrev pub FindsClass : Option Files → List ℕ → Result ClassFile Status → Type 0
+FindsClass told file (Ok class) = HasClassWhereTold told file × (class ≡ first_class)
+FindsClass told file (Err status.Done) = ⊥
+FindsClass told file (Err status.SinkFault) = ⊥
+FindsClass told file (Err outcome) = HasCause told file outcome
+
+-- what putting an audit comes to
+abbrev pub IsPrintAnswer : Status → Type 0
+IsPrintAnswer status.Done = Unit {0}
+IsPrintAnswer status.SinkFault = Unit {0}
+IsPrintAnswer status.OutOfMemory = Unit {0}
+IsPrintAnswer _ = ⊥

@@ -1,0 +1,58 @@
+//! The public calls.
+ghost use Rattle.std.specs.Prelude.{◌≡◌, ◌≢◌, ◌↔◌, ℕ, List};
+ghost use Rattle.jx_base.specs.Faults.{HasRisen};
+ghost use Rattle.jx_top.specs.Outcome.{HasCause, Leaves};
+ghost use Rattle.jx_top.specs.Words.{IsSerial, AsksForRun, AsksForNothing, texts, file_of};
+
+use crate::request::Request;
+use crate::run::run_class;
+use crate::status::Status;
+use crate::words::{WordsFault, class_of, read_words};
+use jx_base::{Gate, Shelf, Sink};
+use std::alloc::Global;
+use std::sync::Wait;
+use std::thread::Threads;
+
+/// Does the request with one worker. It waits for nobody.
+pub fn jx_serial<L: Shelf, K: Sink>(
+    alloc: Global,
+    request: &Request,
+    shelf: &mut L,
+    sink: &mut K,
+) -> Status
+    requires { IsSerial request.now }
+    ensures leaves { Leaves (K.told sink.old) (K.told sink.new) result }
+    ensures cause { HasCause (L.told shelf.old) (file_of request.now) result }
+    ensures shelf { result ≡ Status.ShelfFault → HasRisen (L.faults shelf.old) (L.faults shelf.new) }
+    ensures sink { result ≡ Status.SinkFault → HasRisen (K.faults sink.old) (K.faults sink.new) }
+{
+    let Request::Run { file, workers: _ } = request;
+    match class_of(file.as_str()) {
+        Some(name) => run_class(alloc, file.as_str(), name, shelf, sink),
+        None => unreachable!(),
+    }
+}
+
+/// Reads the words behind the program's name, and does what they ask for.
+pub fn jx_main<R: Threads + Wait + Sync, L: Shelf, K: Sink, G: Gate + Sync>(
+    _rt: &R,
+    alloc: Global,
+    words: &[String],
+    shelf: &mut L,
+    sink: &mut K,
+    _gate: &G,
+) -> Status
+    ensures leaves { Leaves (K.told sink.old) (K.told sink.new) result }
+
+    // The causes of the other statuses.
+    ensures usage { (result ≡ Status.Usage) ↔ AsksForNothing (texts words.now) }
+    ensures cause { (file : List ℕ) → AsksForRun (texts words.now) file → HasCause (L.told shelf.old) file result }
+    ensures shelf { result ≡ Status.ShelfFault → HasRisen (L.faults shelf.old) (L.faults shelf.new) }
+    ensures sink { result ≡ Status.SinkFault → HasRisen (K.faults sink.old) (K.faults sink.new) }
+{
+    match read_words(alloc, words) {
+        Ok(request) => jx_serial(alloc, &request, shelf, sink),
+        Err(WordsFault::Usage) => Status::Usage,
+        Err(WordsFault::OutOfMemory) => Status::OutOfMemory,
+    }
+}

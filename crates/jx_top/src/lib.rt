@@ -1,0 +1,16 @@
+//! The top calls: what the program does, for any shelf and any sink.
+#![tactic(auto)]
+
+mod audit;
+mod calls;
+mod first_run;
+mod lines;
+mod request;
+mod run;
+mod status;
+mod words;
+
+pub use calls::{jx_main, jx_serial};
+pub use lines::{status_line, status_number};
+pub use request::Request;
+pub use status::Status;

@@ -1,0 +1,7 @@
+//! Tests of whole runs, over shelves and sinks in memory.
+#![tactic(auto)]
+
+#[cfg(test)]
+mod first_run;
+#[cfg(test)]
+mod forms;
