@@ -4,3 +4,5 @@ pub mod Puts
 pub mod Texts
 pub mod InMemory
 pub mod ClassNames
+pub mod Stacks
+pub mod Births

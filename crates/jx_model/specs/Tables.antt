@@ -1,0 +1,190 @@
+-- What a nucleus keeps, as plain lists read off its past. Thing number n stands at place n - 1.
+use Rattle.std.specs.Prelude.{◌≡◌, ℕ, Bool, List, [], ◌∷◌, map, filter, Option, Some, None, if◌then◌else◌}
+use Rattle.std.specs.List.{range_with_len}
+use Rattle.std.specs.Str.{bytes_eq}
+use Rattle.jx_base.specs.declared.ids.CallId.{CallId}
+use Rattle.jx_base.specs.declared.ids.ClassId.{ClassId}
+use Rattle.jx_base.specs.declared.states.CallState.{CallState}
+use Rattle.jx_base.specs.declared.states.DomainState.{DomainState}
+use Rattle.jx_base.specs.declared.states.ThreadState.{ThreadState}
+use Rattle.jx_base.specs.declared.states.ThreadState.TheVariants as thread
+use Rattle.jx_base.specs.declared.program.System.{System}
+use Rattle.jx_model.specs.Words.{or_zero, mapped, up_to}
+use Rattle.jx_model.specs.Limits.{granule_limit}
+use Rattle.jx_model.specs.Histories.{Past}
+use Rattle.jx_model.specs.Domains.{domains_made, template_of, creator_of, heap_place_of, end_reason}
+use Rattle.jx_model.specs.Threads.{thread_state, threads_of, served_call}
+use Rattle.jx_model.specs.Portals.{services_made, owner_of, interface_of, holds_portal, bound_service}
+use Rattle.jx_model.specs.Calls.{calls_made, call_state, call_entry, waiting_calls, service_of_call, caller_of}
+use Rattle.jx_model.specs.MemoryObjects.{Part, objects_of, objects_made, is_valid, extents_made, allocation_of, allocated_bytes}
+use Rattle.jx_model.specs.Holding.{holders, riding_count, carried, is_extent_in_use}
+use Rattle.jx_model.specs.Granules.{Run, extent_run, is_used_granule}
+use Rattle.jx_model.specs.Bytes.{byte_at}
+use Rattle.jx_model.specs.Legal.{IsAdmittedPast}
+
+-- ---- domains and threads
+
+-- a domain
+unfoldable pub domain_row : System → Past → ℕ → DomainState
+domain_row s past d =
+    record {
+      template = or_zero (template_of s past d);
+      creator = record { 0 = or_zero (creator_of past d) };
+      at = or_zero (heap_place_of past d);
+      ended = end_reason past d;
+    }
+
+-- all domains
+unfoldable pub domain_rows : System → Past → List DomainState
+domain_rows s past = map (domain_row s past) (up_to (domains_made past))
+
+-- a thread: what it does, and the call that it serves also while it waits or has yielded
+pub record ThreadRow : Type 0 where
+  pub state : ThreadState
+  pub serves : Option CallId
+
+-- the state that is there
+unfoldable pub state_or_over : Option ThreadState → ThreadState
+state_or_over None = thread.Over
+state_or_over (Some x) = x
+
+-- a thread of a domain
+unfoldable pub thread_row : Past → ℕ → ℕ → ThreadRow
+thread_row past d t = record { state = state_or_over (thread_state past d t); serves = served_call past d t }
+
+-- the threads of a domain, thread 0 first
+unfoldable pub thread_rows : Past → ℕ → List ThreadRow
+thread_rows past d = map (thread_row past d) (threads_of past d)
+
+-- ---- services
+
+-- a service: its owner, its interface, and the domains that hold a portal to it
+pub record ServiceRow : Type 0 where
+  pub owner : ℕ
+  pub interface : Option ClassId
+  pub holders : List ℕ
+
+-- a service
+unfoldable pub service_row : Past → ℕ → ServiceRow
+service_row past k =
+    record {
+      owner = or_zero (owner_of past k);
+      interface = interface_of past k;
+      holders = filter (λ d. holds_portal past d k) (up_to (domains_made past));
+    }
+
+-- all services
+unfoldable pub service_rows : Past → List ServiceRow
+service_rows past = map (service_row past) (up_to (services_made past))
+
+-- the service that a list of names has for the name, the first that stands there
+unfoldable pub named_service : List (List ℕ × ℕ) → List ℕ → Option ℕ
+named_service [] name = None
+named_service (x ∷ xs) name = if bytes_eq x.0 name then Some x.1 else named_service xs name
+
+-- ---- calls
+
+-- a call: its caller, the caller's thread, its service, where it stands, and the objects that it carries
+pub record CallRow : Type 0 where
+  pub caller : ℕ
+  pub thread : ℕ
+  pub service : ℕ
+  pub state : CallState
+  pub carried : List ℕ
+
+-- the thread that made the call
+unfoldable pub calling_thread : Past → ℕ → Option ℕ
+calling_thread past c = mapped (λ e. e.thread.0) (call_entry past c)
+
+-- a call
+unfoldable pub call_row : Past → ℕ → CallRow
+call_row past c =
+    record {
+      caller = or_zero (caller_of past c);
+      thread = or_zero (calling_thread past c);
+      service = or_zero (service_of_call past c);
+      state = call_state past c;
+      carried = carried past c;
+    }
+
+-- all calls
+unfoldable pub call_rows : Past → List CallRow
+call_rows past = map (call_row past) (up_to (calls_made past))
+
+-- ---- memory objects
+
+-- an object: whether it is valid, the domains that hold it, and how many calls carry it
+pub record ObjectRow : Type 0 where
+  pub valid : Bool
+  pub holders : List ℕ
+  pub riding : ℕ
+
+-- an object
+unfoldable pub object_row : Past → ℕ → ObjectRow
+object_row past m = record { valid = is_valid past m; holders = holders past m; riding = riding_count past m }
+
+-- all objects
+unfoldable pub object_rows : Past → List ObjectRow
+object_rows past = map (object_row past) (up_to (objects_made past))
+
+-- ---- extents and granules
+
+-- the bytes that an extent was made with
+unfoldable pub extent_size : Past → ℕ → ℕ
+extent_size past x = or_zero (mapped (λ e. allocated_bytes e.act) (allocation_of past x))
+
+-- the bytes of an extent
+unfoldable pub extent_bytes : Past → ℕ → List ℕ
+extent_bytes past x = map (byte_at past x) (range_with_len 0 (extent_size past x))
+
+-- an extent: its granules, and its bytes, which are kept while it is in use
+pub record ExtentRow : Type 0 where
+  pub run : Run
+  pub bytes : Option (List ℕ)
+
+-- an extent
+unfoldable pub extent_row : Past → ℕ → ExtentRow
+extent_row past x = record { run = extent_run past x; bytes = if is_extent_in_use past x then Some (extent_bytes past x) else None }
+
+-- all extents
+unfoldable pub extent_rows : Past → List ExtentRow
+extent_rows past = map (extent_row past) (up_to (extents_made past))
+
+-- for each granule, whether it is in use
+unfoldable pub granule_row : System → Past → List Bool
+granule_row s past = map (is_used_granule s past) (range_with_len 0 (granule_limit s))
+
+-- ---- the whole
+
+-- what a nucleus keeps beside its past
+pub record Kept : Type 0 where
+  pub past : Past
+  pub domains : List DomainState
+  pub threads : List (List ThreadRow)
+  pub services : List ServiceRow
+  pub names : List (List ℕ × ℕ)
+  pub calls : List CallRow
+  pub waiting : List ℕ
+  pub parts : List Part
+  pub objects : List ObjectRow
+  pub extents : List ExtentRow
+  pub taken : List Bool
+
+-- all that is kept is what the admitted past says
+pub record StandsFor (s : System) (k : Kept) : Type 0 where
+  pub admitted : IsAdmittedPast s k.past
+  pub domains : k.domains ≡ domain_rows s k.past
+  pub threads : k.threads ≡ map (thread_rows k.past) (up_to (domains_made k.past))
+  pub services : k.services ≡ service_rows k.past
+  pub names : (name : List ℕ) → named_service k.names name ≡ bound_service k.past name
+  pub calls : k.calls ≡ call_rows k.past
+  pub waiting : k.waiting ≡ waiting_calls k.past
+  pub parts : k.parts ≡ objects_of k.past
+  pub objects : k.objects ≡ object_rows k.past
+  pub extents : k.extents ≡ extent_rows k.past
+  pub taken : k.taken ≡ granule_row s k.past
+
+-- what a computed row opens
+unfoldable pub opened_tables : Unit {0}
+unfolding domain_row domain_rows state_or_over thread_row thread_rows service_row service_rows named_service calling_thread call_row call_rows object_row object_rows extent_size extent_bytes extent_row extent_rows granule_row
+opened_tables = tt

@@ -1,0 +1,191 @@
+-- Which acts are well made: what the type of an act can't say.
+use Rattle.std.specs.Prelude.{FitsSigned, ◌^◌, ◌≡◌, ℕ, ◌<◌, ◌≤◌, ℤ, pos, negsuc, Bool, true, false, ◌&&◌, ◌||◌, ◌⊎◌, List, length, Option, Some, None, is_some, IsSome, IfSome, IsTrue, ◌==◌, nat_lt, nat_le}
+use Rattle.std.specs.Bool.{Decides}
+use Rattle.std.specs.List.{AllByRecursion, list_all}
+use Rattle.std.specs.Int.{w32, w64}
+use Rattle.jx_base.specs.declared.act.Act.{Act}
+use Rattle.jx_base.specs.declared.act.Act.TheVariants as act
+use Rattle.jx_base.specs.declared.act.Reason.{Reason}
+use Rattle.jx_base.specs.declared.act.Reason.TheVariants as reason
+use Rattle.jx_base.specs.declared.ids.ClassId.{ClassId}
+use Rattle.jx_base.specs.declared.value.Parcel.{Parcel}
+use Rattle.jx_base.specs.declared.value.Word.{Word}
+use Rattle.jx_base.specs.declared.value.Word.TheVariants as word
+use Rattle.jx_base.specs.declared.program.System.{System}
+use Rattle.jx_model.specs.Words.{is_number, mapped}
+use Rattle.jx_model.specs.Limits.{text_limit, name_limit, thread_limit, node_limit, parcel_limit}
+use Rattle.jx_model.specs.ParcelParts.{parcel_cells, parcel_words}
+use Rattle.jx_model.specs.Histories.{Past}
+use Rattle.jx_model.specs.Portals.{interface_of}
+use Rattle.jx_model.specs.Lookup.{class_at, selector_at, template_at}
+
+-- a number of 32 bits with a sign
+abbrev pub IsInt : ℤ → Type 0
+IsInt n = FitsSigned w32 n
+
+-- a text of units of sixteen bits, within the limit
+pub record IsText (units : List ℕ) : Type 0 where
+  pub short : length units ≤ text_limit
+  pub sixteen_bits : AllByRecursion (λ u. u < 2 ^ 16) units
+
+-- a printable unit that is no blank
+abbrev pub IsNameUnit : ℕ → Type 0
+IsNameUnit u = (33 ≤ u) × (u ≤ 126)
+
+-- a name that a service can be bound to
+pub record IsServiceName (units : List ℕ) : Type 0 where
+  pub present : 1 ≤ length units
+  pub short : length units ≤ name_limit
+  pub printable : AllByRecursion IsNameUnit units
+
+-- a width of one, two or four bytes
+abbrev pub IsWidth : ℕ → Type 0
+IsWidth w = (w ≡ 1) ⊎ (w ≡ 2) ⊎ (w ≡ 4)
+
+-- a word within its range; a portal names a service that was exported, with its interface
+abbrev pub IsWordIn : Past → ℕ → Word → Type 0
+IsWordIn past nodes (word.Int n) = FitsSigned w32 n
+IsWordIn past nodes (word.Long n) = FitsSigned w64 n
+IsWordIn past nodes (word.Node k) = k < nodes
+IsWordIn past nodes (word.Portal k c) = interface_of past k.0 ≡ Some c
+IsWordIn past nodes _ = Unit {0}
+
+-- a class of the system
+abbrev pub IsClass : System → ℕ → Type 0
+IsClass s c = IsSome (class_at s c)
+
+-- a parcel within its limits whose classes, places and portals are there
+pub record IsParcelIn (s : System) (past : Past) (p : Parcel) : Type 0 where
+  pub few : length p.nodes ≤ node_limit
+  pub small : parcel_words p ≤ parcel_limit
+  pub classes : AllByRecursion (λ n. IsClass s n.class.0) p.nodes
+  pub cells : AllByRecursion (IsWordIn past (length p.nodes)) (parcel_cells p)
+
+-- the act is one that a nucleus with this past can be asked for
+abbrev pub IsWellMade : System → Past → Act → Type 0
+IsWellMade s past (act.Create t) = IsSome (template_at s t)
+IsWellMade s past (act.Print text) = IsText text
+IsWellMade s past (act.Export iface k) = IsClass s iface.0 × (1 ≤ k) × (k ≤ thread_limit)
+IsWellMade s past (act.Bind name service) = IsServiceName name
+IsWellMade s past (act.Lookup name) = IsServiceName name
+IsWellMade s past (act.Call service method parcel) = IsSome (selector_at s method.0) × IsParcelIn s past parcel
+IsWellMade s past (act.Return c parcel) = IsParcelIn s past parcel
+IsWellMade s past (act.Throw c parcel) = IsParcelIn s past parcel
+IsWellMade s past (act.Alloc n) = IsInt n
+IsWellMade s past (act.Get m at width) = IsWidth width × IsInt at
+IsWellMade s past (act.Set m at width v) = IsWidth width × IsInt at × IsInt v
+IsWellMade s past (act.Fill m at count b) = IsInt at × IsInt count × (b < 256)
+IsWellMade s past (act.Copy m at k k_at count) = IsInt at × IsInt k_at × IsInt count
+IsWellMade s past (act.Sub m at count) = IsInt at × IsInt count
+IsWellMade s past (act.Split m at) = IsInt at
+IsWellMade s past (act.Spawn name) = IsText name
+IsWellMade s past (act.Kill k) = IsInt k
+IsWellMade s past (act.Exit code) = IsInt code
+IsWellMade s past (act.EndThread c) = IfSome c (λ k. IsClass s k.0)
+IsWellMade s past (act.End r) = (r ≡ reason.Fuel) ⊎ (r ≡ reason.BadCode)
+IsWellMade s past _ = Unit {0}
+
+-- ---- the same as tests
+
+-- whether the number has so many bits besides its sign
+unfoldable pub has_bits : ℕ → ℤ → Bool
+has_bits bits (pos n) = nat_lt n (2 ^ bits)
+has_bits bits (negsuc n) = nat_lt n (2 ^ bits)
+
+-- whether it is a number of 32 bits with a sign
+unfoldable pub is_int : ℤ → Bool
+is_int n = has_bits 31 n
+
+-- whether it is a text
+unfoldable pub is_text : List ℕ → Bool
+is_text units = nat_le (length units) text_limit && list_all (λ u. nat_lt u (2 ^ 16)) units
+
+-- whether the unit is printable and no blank
+unfoldable pub is_name_unit : ℕ → Bool
+is_name_unit u = nat_le 33 u && nat_le u 126
+
+-- whether a service can be bound to the name
+unfoldable pub is_service_name : List ℕ → Bool
+is_service_name units = nat_le 1 (length units) && nat_le (length units) name_limit && list_all is_name_unit units
+
+-- whether the width is one, two or four bytes
+unfoldable pub is_width : ℕ → Bool
+is_width w = (w == 1) || (w == 2) || (w == 4)
+
+-- whether the word is within its range
+unfoldable pub is_word_in : Past → ℕ → Word → Bool
+is_word_in past nodes (word.Int n) = has_bits 31 n
+is_word_in past nodes (word.Long n) = has_bits 63 n
+is_word_in past nodes (word.Node k) = nat_lt k nodes
+is_word_in past nodes (word.Portal k c) = is_number (mapped (λ x. x.0) (interface_of past k.0)) c.0
+is_word_in past nodes _ = true
+
+-- whether the system has the class
+unfoldable pub is_class : System → ℕ → Bool
+is_class s c = is_some (class_at s c)
+
+-- whether the parcel is within its limits, and its classes, places and portals are there
+unfoldable pub is_parcel_in : System → Past → Parcel → Bool
+is_parcel_in s past p =
+    nat_le (length p.nodes) node_limit
+    && nat_le (parcel_words p) parcel_limit
+    && list_all (λ n. is_class s n.class.0) p.nodes
+    && list_all (is_word_in past (length p.nodes)) (parcel_cells p)
+
+-- whether the system has the class that is there
+unfoldable pub is_exception : System → Option ClassId → Bool
+is_exception s None = true
+is_exception s (Some c) = is_class s c.0
+
+-- whether an end may have the reason
+unfoldable pub is_end_reason : Reason → Bool
+is_end_reason reason.Fuel = true
+is_end_reason reason.BadCode = true
+is_end_reason _ = false
+
+-- whether a nucleus with this past can be asked for the act
+unfoldable pub is_well_made : System → Past → Act → Bool
+is_well_made s past (act.Create t) = is_some (template_at s t)
+is_well_made s past (act.Print text) = is_text text
+is_well_made s past (act.Export iface k) = is_class s iface.0 && nat_le 1 k && nat_le k thread_limit
+is_well_made s past (act.Bind name service) = is_service_name name
+is_well_made s past (act.Lookup name) = is_service_name name
+is_well_made s past (act.Call service method parcel) = is_some (selector_at s method.0) && is_parcel_in s past parcel
+is_well_made s past (act.Return c parcel) = is_parcel_in s past parcel
+is_well_made s past (act.Throw c parcel) = is_parcel_in s past parcel
+is_well_made s past (act.Alloc n) = is_int n
+is_well_made s past (act.Get m at width) = is_width width && is_int at
+is_well_made s past (act.Set m at width v) = is_width width && is_int at && is_int v
+is_well_made s past (act.Fill m at count b) = is_int at && is_int count && nat_lt b 256
+is_well_made s past (act.Copy m at k k_at count) = is_int at && is_int k_at && is_int count
+is_well_made s past (act.Sub m at count) = is_int at && is_int count
+is_well_made s past (act.Split m at) = is_int at
+is_well_made s past (act.Spawn name) = is_text name
+is_well_made s past (act.Kill k) = is_int k
+is_well_made s past (act.Exit code) = is_int code
+is_well_made s past (act.EndThread c) = is_exception s c
+is_well_made s past (act.End r) = is_end_reason r
+is_well_made s past _ = true
+
+-- the test says whether the act is well made
+abbrev pub IsWellMadeTest : System → Past → Act → Type 0
+IsWellMadeTest s past a = Decides (is_well_made s past a) (IsWellMade s past a)
+
+-- ---- acts with code
+
+-- whether the code of the act is there
+unfoldable pub is_built : Act → Bool
+is_built (act.Create t) = true
+is_built (act.Print text) = true
+is_built (act.EndThread c) = true
+is_built act.Quiet = true
+is_built _ = false
+
+-- the code of the act is there
+abbrev pub IsBuilt : Act → Type 0
+IsBuilt a = IsTrue (is_built a)
+
+-- what a computed row opens
+unfoldable pub opened_well_made : Unit {0}
+unfolding has_bits is_int is_text is_name_unit is_service_name is_width is_word_in is_class is_parcel_in is_exception is_end_reason is_well_made is_built
+opened_well_made = tt
