@@ -1,0 +1,26 @@
+use Rattle.std.proofs.Common.{◌∙◌, ap, refl, arith, [], ◌∷◌, ◌++◌}
+use Rattle.jx_base.specs.declared.act.Entry.{Entry}
+use Rattle.jx_base.specs.declared.act.Act.TheVariants.{Create}
+use Rattle.jx_base.specs.declared.act.Reply.TheVariants.{Domain}
+use Rattle.jx_base.specs.Births.{domain_in, answered_domain}
+use Rattle.rows_locks.specs.ListState.{ListState}
+use Rattle.rows_locks.proofs.Numbering.{numbers_with}
+use Rattle.rows_locks.proofs.plain_list.PlainList.create.Goals as goal
+
+pub invariant_of-self-2 : goal.invariant_of-self-2
+unfolding domain_in answered_domain
+invariant_of-self-2 c =
+    let e : Entry = record { domain = c.args.domain; thread = record { 0 = 0 }; act = Create 0; reply = Domain (record { 0 = c.self.inside.next }) 0 } in
+    rw c.in_ok-push.ensures.items (numbers_with c.self.inside.entries.items e c.self.inside.next c.self.invariant refl (omega (arith, c.if-len-ge-MOST.false, c.len.ensures)))
+
+pub returns-clause-ok : goal.returns-clause-ok
+unfolding domain_in answered_domain
+returns-clause-ok c =
+    let e : Entry = record { domain = c.args.domain; thread = record { 0 = 0 }; act = Create 0; reply = Domain (record { 0 = c.self.inside.next }) 0 } in
+    record {
+      entry = e;
+      system = ap (λ (l : ListState). l.system) c.self.view_is;
+      entries = c.in_ok-push.ensures.items ∙ ap (λ (l : ListState). l.entries ++ e ∷ []) c.self.view_is;
+      own = refl;
+      makes = refl;
+    }
