@@ -32,7 +32,7 @@ all_two P x y p q (suc (suc k)) d h = absurd (omega (arith, h))
 
 -- ---- the plan and the system
 
-plan_in_range : IsPlanInRange (hello_plan 1000000)
+pub plan_in_range : IsPlanInRange (hello_plan 1000000)
 unfolding opened_model
 plan_in_range =
     record {
@@ -55,7 +55,7 @@ plan_in_range =
       class_order = refl;
     }
 
-is_linked : IsLinked (hello_plan 1000000) (hello_file ∷ []) (hello_system 1000000)
+pub is_linked : IsLinked (hello_plan 1000000) (hello_file ∷ []) (hello_system 1000000)
 is_linked =
     record {
       has_files = record { range = plan_in_range; count = refl };

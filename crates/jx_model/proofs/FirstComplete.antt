@@ -14,8 +14,11 @@ use Rattle.jx_model.specs.Domains.{template_of, domains_made}
 use Rattle.jx_model.specs.WellMade.{IsText}
 use Rattle.jx_model.specs.Legal.{IsNext, AllFollowCode, FollowsCode, IsComplete}
 use Rattle.jx_model.specs.SingleWorker.{IsSingleWorkerHistory}
+use Rattle.jx_model.specs.AuditText.{audit_text}
+use Rattle.jx_model.proofs.FirstClass.{hello_audit}
+use Rattle.std.specs.Fmt.{digits}
 use Rattle.jx_model.proofs.TestSystems.{history_of}
-use Rattle.jx_model.proofs.FirstClass.{hello_system}
+use Rattle.jx_model.proofs.Hello.{hello_system}
 
 abbrev hello : System
 hello = hello_system 1000000
@@ -79,7 +82,7 @@ follows d t l u h =
     subst (λ (k : ℕ). FollowsCode hello t (own_entries (past_of hello_history) k)) q
     (follows_at t (subst (λ (k : ℕ). template_of hello (past_of hello_history) k ≡ Some t) (sym q) h))
 
-hello_is_complete : IsComplete hello hello_history
+pub hello_is_complete : IsComplete hello hello_history
 unfolding opened_model
 hello_is_complete =
     record {
@@ -87,7 +90,7 @@ hello_is_complete =
       ended = refl;
     }
 
-hello_is_single : IsSingleWorkerHistory hello hello_history
+pub hello_is_single : IsSingleWorkerHistory hello hello_history
 unfolding opened_model
 hello_is_single =
     record {
@@ -97,3 +100,8 @@ hello_is_single =
         (record { domain = refl; act = refl }, (record { domain = refl; act = refl }, (record { domain = refl; act = refl }, tt))),
       );
     }
+
+-- its audit
+pub hello_has_audit : audit_text hello hello_history ≡ hello_audit
+unfolding digits opened_model
+hello_has_audit = refl

@@ -2,3 +2,4 @@ pub mod Words
 pub mod FirstRun
 pub mod Outcome
 pub mod Lines
+pub mod FirstSystem

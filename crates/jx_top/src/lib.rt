@@ -4,6 +4,7 @@
 mod audit;
 mod calls;
 mod first_run;
+mod laws;
 mod lines;
 mod request;
 mod run;
@@ -11,6 +12,7 @@ mod status;
 mod words;
 
 pub use calls::{jx_main, jx_serial};
+pub use laws::first_system_prints;
 pub use lines::{status_line, status_number};
 pub use request::Request;
 pub use status::Status;
