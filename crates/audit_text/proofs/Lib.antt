@@ -1,1 +1,10 @@
 pub mod Writing
+pub mod Lines
+pub mod Births
+pub mod Built
+pub mod BirthLines
+pub mod Sums
+pub mod UsedGranules
+pub mod JournalWords
+pub mod LastEntry
+pub mod Parts

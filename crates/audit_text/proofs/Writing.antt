@@ -179,3 +179,6 @@ pub spaced-none : (pieces : List Piece) → length pieces ≡ 0 → spaced (piec
 unfolding spaced
 spaced-none [] none = refl
 spaced-none (piece ∷ pieces) none = absurd (omega arith)
+
+pub completes_same : (rest more whole : List ℕ) {o0 o : Output} → rest ≡ more → Completes rest whole o0 o → Completes more whole o0 o
+completes_same rest more whole is so_far = λ o2 r q. so_far o2 r (rw is q)

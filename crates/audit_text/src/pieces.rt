@@ -95,7 +95,11 @@ fn write_spaced<K: Sink>(piece: &Piece<'_>, page: &mut Page, sink: &mut K) -> Re
     write_piece(piece, page, sink)
 }
 
-fn write_behind<K: Sink>(pieces: &[Piece<'_>], page: &mut Page, sink: &mut K) -> Result<(), Failed>
+pub fn write_behind<K: Sink>(
+    pieces: &[Piece<'_>],
+    page: &mut Page,
+    sink: &mut K,
+) -> Result<(), Failed>
     ensures { Writes (flat_map spaced_piece pieces.now) (output (K.told sink.old) page.old (K.faults sink.old)) (output (K.told sink.new) page.new (K.faults sink.new)) result }
 {
     for piece in pieces {
@@ -104,7 +108,11 @@ fn write_behind<K: Sink>(pieces: &[Piece<'_>], page: &mut Page, sink: &mut K) ->
     Ok(())
 }
 
-fn write_words<K: Sink>(words: &[Piece<'_>], page: &mut Page, sink: &mut K) -> Result<(), Failed>
+pub fn write_words<K: Sink>(
+    words: &[Piece<'_>],
+    page: &mut Page,
+    sink: &mut K,
+) -> Result<(), Failed>
     ensures { Writes (spaced (piece_texts words.now)) (output (K.told sink.old) page.old (K.faults sink.old)) (output (K.told sink.new) page.new (K.faults sink.new)) result }
 {
     match words.split_first() {

@@ -1,6 +1,7 @@
 //! Shelves and sinks in memory, texts and pages.
 
 use audit_text::{Page, Piece, put_line};
+use boot_classes::boot;
 use class_reader::{FIRST_CLASS, ReadFault, read_class};
 use jx_base::{Failed, Fetch, HonestShelf, MemorySink, Shelf, Sink, text_of};
 use std::test::Fail;
@@ -70,5 +71,19 @@ fn first_class_is_read(rt: HostRuntime) -> Result<(), Fail> {
     let cut = &FIRST_CLASS[..190];
     assert!(rt; matches!(read_class(alloc, cut), Err(ReadFault::NotYet)));
     assert_eq!(rt; text_of(alloc, "hi")?.as_slice(), [0x68, 0x69].as_slice());
+    Ok(())
+}
+
+#[test]
+fn built_in_classes_have_their_places(rt: HostRuntime) -> Result<(), Fail> {
+    let alloc = rt.alloc();
+    let classes = boot(alloc)?;
+    assert_eq!(rt; classes.len(), 27);
+    let first = text_of(alloc, "java/lang/Object")?;
+    assert_eq!(rt; classes[0].name.as_slice(), first.as_slice());
+    assert!(rt; classes[0].parent.is_none());
+    let last = text_of(alloc, "jx/RefusedException")?;
+    assert_eq!(rt; classes[26].name.as_slice(), last.as_slice());
+    assert_eq!(rt; classes[26].methods.as_slice().len(), 2);
     Ok(())
 }

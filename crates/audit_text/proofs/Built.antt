@@ -1,0 +1,151 @@
+-- Entries whose acts have code.
+use Rattle.std.proofs.Common.{◌≡◌, refl, sym, ◌∙◌, ℕ, Bool, true, false, List, [], ◌∷◌, ◌++◌, Option, Some, None, is_some, reverse}
+use Rattle.std.specs.List.{AllByRecursion}
+use Rattle.std.proofs.lemmas.List.{reverse-reverse}
+use Rattle.std.proofs.lemmas.Grind.{reverse_onto}
+use Rattle.jx_base.specs.declared.act.Act.{Act}
+use Rattle.jx_base.specs.declared.act.Act.TheVariants as act
+use Rattle.jx_base.specs.declared.act.Reply.{Reply}
+use Rattle.jx_base.specs.declared.act.Reply.TheVariants as reply
+use Rattle.jx_base.specs.declared.act.Refusal.TheVariants as refusal
+use Rattle.jx_base.specs.declared.act.Entry.{Entry}
+use Rattle.jx_base.specs.declared.act.History.{History}
+use Rattle.jx_base.specs.declared.program.System.{System}
+use Rattle.jx_model.specs.Histories.{Past, past_of}
+use Rattle.jx_model.specs.Domains.{is_birth, makes_domain, ended_by, ended_by_act, end_reason, reason_for, named_template}
+use Rattle.jx_model.specs.Calls.{is_call, asked_by, calls_made}
+use Rattle.jx_model.specs.MemoryObjects.{is_allocation, makes_extent, extents_made}
+use Rattle.jx_model.specs.Granules.{first_fit, heap_granules}
+use Rattle.jx_model.specs.Replies.{reply_to, new_domain, ◌refuses◌else◌, given_or}
+use Rattle.jx_model.specs.Legal.{IsNext, IsAdmitted, IsAdmittedPast}
+use Rattle.jx_model.specs.WellMade.{IsBuilt, is_built}
+use Rattle.jx_model.proofs.Numbers.{count_same}
+use Rattle.audit_text.specs.Rendering.{IsBuiltReply, IsBuiltEntry, HasBuiltActs, made_template}
+
+-- ---- what all have, in any order
+
+pub all_append : {X : Type 0} (P : X → Type 0) (xs ys : List X) → AllByRecursion P xs → AllByRecursion P ys → AllByRecursion P (xs ++ ys)
+all_append P [] ys p q = q
+all_append P (x ∷ xs) ys p q = (p.0, all_append P xs ys p.1 q)
+
+pub all_of_append : {X : Type 0} (P : X → Type 0) (xs ys : List X) → AllByRecursion P (xs ++ ys) → AllByRecursion P xs × AllByRecursion P ys
+all_of_append P [] ys p = (tt, p)
+all_of_append P (x ∷ xs) ys p = let r = all_of_append P xs ys p.1 in ((p.0, r.0), r.1)
+
+pub reverse-cons : {X : Type 0} (x : X) (xs : List X) → reverse (x ∷ xs) ≡ reverse xs ++ (x ∷ [])
+reverse-cons x xs = reverse_onto xs x []
+
+pub all_reverse : {X : Type 0} (P : X → Type 0) (xs : List X) → AllByRecursion P xs → AllByRecursion P (reverse xs)
+all_reverse P [] p = p
+all_reverse P (x ∷ xs) p = rw (reverse-cons x xs) (all_append P (reverse xs) (x ∷ []) (all_reverse P xs p.1) (p.0, tt))
+
+-- ---- replies
+
+create_reply : (b : Bool) (o : Option ℕ) (n : ℕ) →
+    IsBuiltReply (b refuses refusal.TooMany else given_or o refusal.NoRoom (λ g. reply.Domain (record { 0 = n }) g))
+unfolding ◌refuses◌else◌ given_or
+create_reply true o n = tt
+create_reply false None n = tt
+create_reply false (Some g) n = tt
+
+reply_built : (s : System) (past : Past) (d : ℕ) (a : Act) → IsBuilt a → IsBuiltReply (reply_to s past d a)
+unfolding is_built reply_to new_domain
+reply_built s past d (act.Create t) h = create_reply _ (first_fit s past (heap_granules s t)) _
+reply_built s past d (act.Print text) h = tt
+reply_built s past d (act.EndThread c) h = tt
+reply_built s past d act.Quiet h = tt
+reply_built s past d _ h = absurd (cc)
+
+next_built : (s : System) (past : Past) (e : Entry) → IsNext s past e → IsBuilt e.act → IsBuiltEntry e
+next_built s past e next h = record { act = h; reply = rw next.reply (reply_built s past e.domain.0 e.act h) }
+
+pub past_built : (s : System) (past : Past) → IsAdmittedPast s past → AllByRecursion (λ e. IsBuilt e.act) past → AllByRecursion IsBuiltEntry past
+past_built s [] admitted h = tt
+past_built s (e ∷ past) admitted h = (next_built s past e admitted.0 h.0, past_built s past admitted.1 h.1)
+
+pub entries_built : (s : System) (h : History) → IsAdmitted s h → HasBuiltActs h → AllByRecursion IsBuiltEntry h.entries
+unfolding past_of
+entries_built s h admitted built =
+    rw (sym (reverse-reverse h.entries))
+    (all_reverse IsBuiltEntry (reverse h.entries) (past_built s (reverse h.entries) admitted (all_reverse (λ e. IsBuilt e.act) h.entries built)))
+
+-- ---- what an act with code doesn't do
+
+no_end : (d : ℕ) (a : Act) (r : Reply) → IsBuilt a → ended_by_act d a r ≡ None
+unfolding is_built ended_by_act
+no_end d (act.Create t) r h = refl
+no_end d (act.Print text) r h = refl
+no_end d (act.EndThread c) r h = refl
+no_end d act.Quiet r h = refl
+no_end d _ r h = absurd (cc)
+
+pub ended-none : (e : Entry) → IsBuiltEntry e → ended_by e ≡ None
+unfolding ended_by
+ended-none e h = no_end e.domain.0 e.act e.reply h.act
+
+pub none_ended : (past : Past) (d : ℕ) → AllByRecursion IsBuiltEntry past → end_reason past d ≡ None
+unfolding end_reason reason_for
+none_ended [] d h = refl
+none_ended (e ∷ past) d h = rw (ended-none e h.0, end_reason) (none_ended past d h.1)
+
+no_call : (a : Act) → IsBuilt a → asked_by a ≡ None
+unfolding is_built asked_by
+no_call (act.Create t) h = refl
+no_call (act.Print text) h = refl
+no_call (act.EndThread c) h = refl
+no_call act.Quiet h = refl
+no_call _ h = absurd (cc)
+
+is_call-false : (e : Entry) → IsBuiltEntry e → is_call e ≡ false
+unfolding is_call
+is_call-false e h = rw (no_call e.act h.act) refl
+
+pub no_calls : (past : Past) → AllByRecursion IsBuiltEntry past → calls_made past ≡ 0
+unfolding Rattle.jx_model.specs.Histories.count_where
+no_calls [] h = refl
+no_calls (e ∷ past) h = count_same is_call e past (is_call-false e h.0) ∙ no_calls past h.1
+
+no_extent : (a : Act) (r : Reply) → IsBuilt a → makes_extent a r ≡ false
+unfolding is_built makes_extent
+no_extent (act.Create t) r h = refl
+no_extent (act.Print text) r h = refl
+no_extent (act.EndThread c) r h = refl
+no_extent act.Quiet r h = refl
+no_extent _ r h = absurd (cc)
+
+is_allocation-false : (e : Entry) → IsBuiltEntry e → is_allocation e ≡ false
+unfolding is_allocation
+is_allocation-false e h = no_extent e.act e.reply h.act
+
+pub no_extents : (past : Past) → AllByRecursion IsBuiltEntry past → extents_made past ≡ 0
+unfolding Rattle.jx_model.specs.Histories.count_where
+no_extents [] h = refl
+no_extents (e ∷ past) h = count_same is_allocation e past (is_allocation-false e h.0) ∙ no_extents past h.1
+
+-- ---- births
+
+create_births : (t : ℕ) (r : Reply) → makes_domain (act.Create t) r ≡ is_some (made_template (act.Create t) r)
+unfolding makes_domain made_template
+create_births t (reply.Domain d g) = refl
+create_births t _ = refl
+
+births : (a : Act) (r : Reply) → IsBuilt a → makes_domain a r ≡ is_some (made_template a r)
+unfolding is_built makes_domain made_template
+births (act.Create t) r h = create_births t r
+births (act.Print text) r h = refl
+births (act.EndThread c) r h = refl
+births act.Quiet r h = refl
+births _ r h = absurd (cc)
+
+-- an act with code makes a domain by a create
+pub birth_created : (e : Entry) → IsBuiltEntry e → is_birth e ≡ is_some (made_template e.act e.reply)
+unfolding is_birth
+birth_created e h = births e.act e.reply h.act
+
+named_template-of_made : (s : System) (a : Act) (r : Reply) (t : ℕ) → made_template a r ≡ Some t → named_template s a ≡ Some t
+unfolding made_template named_template
+named_template-of_made s (act.Create k) (reply.Domain d g) t h = h
+named_template-of_made s _ _ t h = absurd (cc)
+
+pub named_template-made : (s : System) (e : Entry) (t : ℕ) → made_template e.act e.reply ≡ Some t → named_template s e.act ≡ Some t
+named_template-made s e t h = named_template-of_made s e.act e.reply t h

@@ -1,0 +1,15 @@
+use Rattle.std.proofs.Common.{◌≤◌, drop}
+use Rattle.audit_text.specs.Writes.{output}
+use Rattle.audit_text.proofs.BirthLines.{born_lines}
+use Rattle.audit_text.proofs.Writing.{Completes}
+use Rattle.audit_text.proofs.domains.write_domains.Given as goal
+
+abbrev pub invariant-loop-entry : goal.invariant-loop-entry
+invariant-loop-entry g l = record {
+  few : l.domains ≤ l.entry-index;
+  lines : Completes
+      (born_lines l.system l.domains (drop l.entry-index l.entries))
+      (born_lines l.system 0 l.entries)
+      (output (g.K.Sink.told l.initial.sink) l.initial.page (g.K.Sink.faults l.initial.sink))
+      (output (g.K.Sink.told l.sink) l.page (g.K.Sink.faults l.sink));
+}

@@ -1,0 +1,4 @@
+use Rattle.audit_text.proofs.entries.write_act.Goals as goal
+
+pub returns-in-EndThread : goal.returns-in-EndThread
+returns-in-EndThread g c = rw c.in-EndThread.is c.write_end_thread.ensures

@@ -1,0 +1,15 @@
+use Rattle.std.proofs.Common.{sym}
+use Rattle.audit_text.proofs.LastEntry.{before_last-reverse, before_last-none, front_built}
+use Rattle.audit_text.proofs.totals.words_before_last.Goals as goal
+
+pub words_of-requires-clause-built : goal.words_of-requires-clause-built
+words_of-requires-clause-built c = (front_built c.args.entries.now c.in-Some.front.now c.in-Some.field-0-0.now c.in-Some.ensures.cases.0 c.requires.built).0
+
+pub words_of-requires-clause-small : goal.words_of-requires-clause-small
+words_of-requires-clause-small c = rw (before_last-reverse c.args.entries.now c.in-Some.front.now c.in-Some.field-0-0.now c.in-Some.ensures.cases.0) at c.requires.small
+
+pub returns-in-None : goal.returns-in-None
+returns-in-None c = sym (before_last-none c.args.entries.now c.in-None.ensures.cases)
+
+pub returns-in-Some : goal.returns-in-Some
+returns-in-Some c = rw (before_last-reverse c.args.entries.now c.in-Some.front.now c.in-Some.field-0-0.now c.in-Some.ensures.cases.0) c.words_of.ensures

@@ -1,0 +1,39 @@
+//! The lines of what was printed.
+ghost use Rattle.std.specs.List.{flat_map};
+ghost use Rattle.jx_model.specs.AuditText.{console_line};
+ghost use Rattle.audit_text.specs.Writes.{Writes, output};
+
+use crate::page::Page;
+use crate::pieces::{Piece, write_line};
+use jx_base::{Act, Entry, Failed, Reply, Sink};
+
+#[tactic(auto, unfolding(crate::specs::Pieces::piece_text, jx_model::specs::AuditText::console_line, jx_model::specs::AuditText::printed))]
+fn write_printed<K: Sink>(entry: &Entry, page: &mut Page, sink: &mut K) -> Result<(), Failed>
+    ensures { Writes (console_line entry.now) (output (K.told sink.old) page.old (K.faults sink.old)) (output (K.told sink.new) page.new (K.faults sink.new)) result }
+{
+    match (&entry.act, &entry.reply) {
+        (Act::Print(text), Reply::Done) => write_line(
+            &[
+                Piece::Number(u64::from(entry.domain.0)),
+                Piece::Quoted(text.as_slice()),
+            ],
+            page,
+            sink,
+        ),
+        _ => Ok(()),
+    }
+}
+
+/// Writes a line for each text that was printed.
+pub fn write_console<K: Sink>(
+    entries: &[Entry],
+    page: &mut Page,
+    sink: &mut K,
+) -> Result<(), Failed>
+    ensures { Writes (flat_map console_line entries.now) (output (K.told sink.old) page.old (K.faults sink.old)) (output (K.told sink.new) page.new (K.faults sink.new)) result }
+{
+    for entry in entries {
+        write_printed(entry, page, sink)?;
+    }
+    Ok(())
+}

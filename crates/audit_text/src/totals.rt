@@ -1,0 +1,146 @@
+//! The lines of the totals.
+ghost use Rattle.std.specs.Prelude.{◌≡◌, ◌≤◌, ◌<◌, ◌^◌, reverse};
+ghost use Rattle.std.specs.List.{AllByRecursion};
+ghost use Rattle.jx_model.specs.AuditText.{before_last, end_word, total_line, total_lines};
+ghost use Rattle.jx_model.specs.Granules.{heap_granules, used_granules};
+ghost use Rattle.jx_model.specs.Histories.{entry_words, words_of};
+ghost use Rattle.jx_model.specs.Legal.{IsAdmittedPast};
+ghost use Rattle.audit_text.specs.Rendering.{IsBuiltEntry};
+ghost use Rattle.audit_text.specs.Writes.{Writes, output};
+
+use crate::domains::made_template;
+use crate::page::Page;
+use crate::pieces::{Piece, write_line};
+use jx_base::{Act, Entry, Failed, Sink, System};
+
+fn wide(n: u32) -> u64
+    ensures same { result ≡ n }
+    ensures small { result < 2 ^ 32 }
+{
+    u64::from(n)
+}
+
+/// The granules of the heap of a domain of the template.
+#[tactic(auto, unfolding(jx_model::specs::Granules::heap_granules, jx_model::specs::Granules::heap_of_template, jx_model::specs::Words::parts_of, jx_model::specs::Words::or_zero, jx_model::specs::Words::mapped, jx_model::specs::Limits::granule_cells))]
+fn heap_granules(system: &System, template: u32) -> u64
+    ensures granules { result ≡ heap_granules system.now template }
+    ensures small { result ≤ 2 ^ 29 }
+{
+    match system.plan.templates.as_slice().get(template as usize) {
+        Some(found) => (wide(found.heap) + 7) / 8,
+        None => 0,
+    }
+}
+
+/// How many granules are in use.
+fn used_granules(system: &System, entries: &[Entry]) -> u64
+    requires admitted { IsAdmittedPast system.now (reverse entries.now) }
+    requires built { AllByRecursion IsBuiltEntry entries.now }
+    ensures { result ≡ used_granules system.now (reverse entries.now) }
+{
+    let mut used: u64 = 0;
+    for entry in entries {
+        if let Some(template) = made_template(entry) {
+            used += heap_granules(system, template);
+        }
+    }
+    used
+}
+
+/// The words that the entry costs.
+#[tactic(auto, unfolding(jx_model::specs::Histories::entry_words, jx_model::specs::Histories::act_words, jx_model::specs::Histories::reply_words))]
+fn entry_words(entry: &Entry) -> u64
+    requires built { IsBuiltEntry entry.now }
+    requires small { entry_words entry.now < 2 ^ 32 }
+    ensures { result ≡ entry_words entry.now }
+{
+    match &entry.act {
+        Act::Print(text) => 8 + text.as_slice().len() as u64,
+        _ => 8,
+    }
+}
+
+/// The words that the entries cost.
+fn words_of(entries: &[Entry]) -> u64
+    requires built { AllByRecursion IsBuiltEntry entries.now }
+    requires small { words_of (reverse entries.now) < 2 ^ 32 }
+    ensures { result ≡ words_of (reverse entries.now) }
+{
+    let mut words: u64 = 0;
+    for entry in entries {
+        words += entry_words(entry);
+    }
+    words
+}
+
+/// The words that the entries before the last one cost.
+fn words_before_last(entries: &[Entry]) -> u64
+    requires built { AllByRecursion IsBuiltEntry entries.now }
+    requires small { words_of (before_last (reverse entries.now)) < 2 ^ 32 }
+    ensures { result ≡ words_of (before_last (reverse entries.now)) }
+{
+    match entries.split_last() {
+        None => 0,
+        Some((_, front)) => words_of(front),
+    }
+}
+
+/// The word of how the run ends.
+fn end_word(entries: &[Entry]) -> &'static str
+    requires { AllByRecursion IsBuiltEntry entries.now }
+    ensures { result.now ≡ end_word (reverse entries.now) }
+{
+    match entries.split_last() {
+        None => "open",
+        Some((last, _)) => match &last.act {
+            Act::Quiet => "quiet",
+            _ => "open",
+        },
+    }
+}
+
+#[tactic(auto, unfolding(jx_model::specs::AuditText::total_line, crate::specs::Pieces::piece_text))]
+fn write_total<K: Sink>(
+    word: &str,
+    used: u64,
+    all: u64,
+    page: &mut Page,
+    sink: &mut K,
+) -> Result<(), Failed>
+    ensures { Writes (total_line word.now used all) (output (K.told sink.old) page.old (K.faults sink.old)) (output (K.told sink.new) page.new (K.faults sink.new)) result }
+{
+    write_line(
+        &[
+            Piece::Plain(word),
+            Piece::Number(used),
+            Piece::Plain("of"),
+            Piece::Number(all),
+        ],
+        page,
+        sink,
+    )
+}
+
+/// Writes the lines of the totals, and of how the run ends.
+pub fn write_totals<K: Sink>(
+    system: &System,
+    entries: &[Entry],
+    page: &mut Page,
+    sink: &mut K,
+) -> Result<(), Failed>
+    requires admitted { IsAdmittedPast system.now (reverse entries.now) }
+    requires built { AllByRecursion IsBuiltEntry entries.now }
+    ensures { Writes (total_lines system.now (reverse entries.now)) (output (K.told sink.old) page.old (K.faults sink.old)) (output (K.told sink.new) page.new (K.faults sink.new)) result }
+{
+    let granules = wide(system.plan.granules);
+    let used = used_granules(system, entries);
+    write_total("memory", used, granules, page, sink)?;
+    let journal = wide(system.plan.journal);
+    let words = words_before_last(entries);
+    write_total("words", words, journal, page, sink)?;
+    write_line(
+        &[Piece::Plain("end"), Piece::Plain(end_word(entries))],
+        page,
+        sink,
+    )
+}
