@@ -1,5 +1,5 @@
 -- The one class that is read by now: its main prints `hi`.
-use Rattle.std.specs.Prelude.{ℕ, List, [], ◌∷◌, Some, codes}
+use Rattle.std.specs.Prelude.{◌≡◌, ℕ, List, [], ◌∷◌, Some, codes}
 use Rattle.jx_base.specs.declared.class_file.ClassFile.{ClassFile}
 use Rattle.jx_base.specs.declared.class_file.Code.{Code}
 use Rattle.jx_base.specs.declared.class_file.Constant.{Constant}
@@ -63,3 +63,8 @@ first_class = record {
   fields = [];
   methods = first_main ∷ [];
 }
+
+-- the bytes are read as this class file
+pub record IsReadAs (bytes : List ℕ) (file : ClassFile) : Type 0 where
+  pub bytes_are : bytes ≡ first_bytes
+  pub file_is : file ≡ first_class

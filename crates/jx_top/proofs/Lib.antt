@@ -1,0 +1,3 @@
+pub mod FirstSystem
+pub mod Prints
+pub mod Linking

@@ -5,15 +5,11 @@ use Rattle.jx_base.specs.declared.act.Act.TheVariants as act
 use Rattle.jx_base.specs.declared.act.Entry.{Entry}
 use Rattle.jx_base.specs.declared.act.History.{History}
 use Rattle.jx_base.specs.declared.class_file.ClassFile.{ClassFile}
-use Rattle.jx_base.specs.declared.program.Plan.{Plan}
 use Rattle.jx_base.specs.declared.program.System.{System}
 use Rattle.class_reader.specs.FirstClass.{first_class}
 use Rattle.jx_model.specs.Linking.{linked_system}
-use Rattle.jx_top.specs.FirstRun.{one_class_plan, one_print}
-
--- its plan
-unfoldable pub first_plan : Plan
-first_plan = one_class_plan (codes "Hello")
+use Rattle.linker_classes.specs.FirstPlan.{first_plan}
+use Rattle.jx_top.specs.FirstRun.{one_print}
 
 -- its class files
 unfoldable pub first_files : List ClassFile

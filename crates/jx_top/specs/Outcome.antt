@@ -2,7 +2,6 @@
 use Rattle.std.specs.Prelude.{◌≡◌, ℕ, List, Option, Some, None, Result, Ok, Err, Vec, IsSomeAnd, string_bytes}
 use Rattle.std.specs.declared.alloc.Global.{Global}
 use Rattle.jx_base.specs.Files.{Files, HasLongFile}
-use Rattle.jx_base.specs.Puts.{TookPrefix, with_bytes}
 use Rattle.class_reader.specs.FirstClass.{first_bytes, first_class}
 use Rattle.jx_base.specs.declared.class_file.ClassFile.{ClassFile}
 use Rattle.jx_top.specs.FirstRun.{own_name}
@@ -47,12 +46,6 @@ HasCause (Some files) file outcome = HasToldCause files file outcome
 HasCause None file status.Usage = ⊥
 HasCause None file _ = Unit {0}
 
--- what a sink holds at the end: after Done a text more, after SinkFault a prefix of one, else nothing more
-abbrev pub Leaves : Option (List ℕ) → Option (List ℕ) → Status → Type 0
-Leaves before now status.Done = (text : List ℕ) × (now ≡ with_bytes before text)
-Leaves before now status.SinkFault = (text : List ℕ) × TookPrefix before text now
-Leaves before now _ = now ≡ before
-
 -- the bytes of the file, or why there are none
 abbrev pub FindsBytes : Option Files → List ℕ → Result (Vec ℕ Global) Status → Type 0
 FindsBytes (Some files) file (Ok v) = files file ≡ Some v.items
@@ -70,16 +63,9 @@ HoldsClass name bytes (Err (status.NotYet n)) = (string_bytes n ≡ name) × IsU
 HoldsClass name bytes (Err status.OutOfMemory) = Unit {0}
 HoldsClass name bytes (Err outcome) = ⊥
 
--- the class of the file, or why there is none
-abbrev pub FindsClass : Option Files → List ℕ → Result ClassFile Status → Type 0
-FindsClass told file (Ok class) = HasClassWhereTold told file × (class ≡ first_class)
-FindsClass told file (Err status.Done) = ⊥
-FindsClass told file (Err status.SinkFault) = ⊥
-FindsClass told file (Err outcome) = HasCause told file outcome
-
--- what putting an audit comes to
-abbrev pub IsPrintAnswer : Status → Type 0
-IsPrintAnswer status.Done = Unit {0}
-IsPrintAnswer status.SinkFault = Unit {0}
-IsPrintAnswer status.OutOfMemory = Unit {0}
-IsPrintAnswer _ = ⊥
+-- the class of the file with its name, or why there is none
+abbrev pub FindsClass : Option Files → List ℕ → List ℕ → Result ClassFile Status → Type 0
+FindsClass told file name (Ok class) = HasClassWhereTold told file × (own_name first_class ≡ Some name) × (class ≡ first_class)
+FindsClass told file name (Err status.Done) = ⊥
+FindsClass told file name (Err status.SinkFault) = ⊥
+FindsClass told file name (Err outcome) = HasCause told file outcome

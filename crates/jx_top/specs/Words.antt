@@ -28,13 +28,18 @@ AsksFor words (Run file workers) = AsksForRun words (string_bytes file) × (work
 abbrev pub AsksForNothing : List (List ℕ) → Type 0
 AsksForNothing words = (file : List ℕ) → AsksForRun words file → ⊥
 
--- each value of the request is as the words would have it, and there is one worker
-abbrev pub IsSerial : Request → Type 0
-IsSerial (Run file workers) = IsClassFileName (string_bytes file) × (workers ≡ 1)
-
 -- the file that is fetched first
 abbrev pub file_of : Request → List ℕ
 file_of (Run file workers) = string_bytes file
+
+-- how many workers there are
+abbrev pub workers_of : Request → ℕ
+workers_of (Run file workers) = workers
+
+-- each value of the request is as the words would have it, and there is one worker
+pub record IsSerial (request : Request) : Type 0 where
+  pub of_class : IsClassFileName (file_of request)
+  pub one_worker : workers_of request ≡ 1
 
 abbrev pub texts : List (String Global) → List (List ℕ)
 texts words = map string_bytes words

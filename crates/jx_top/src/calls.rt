@@ -1,7 +1,8 @@
 //! The public calls.
 ghost use Rattle.std.specs.Prelude.{◌≡◌, ◌≢◌, ◌↔◌, ℕ, List};
 ghost use Rattle.jx_base.specs.Faults.{HasRisen};
-ghost use Rattle.jx_top.specs.Outcome.{HasCause, Leaves};
+ghost use Rattle.jx_top.specs.Headline.{Prints};
+ghost use Rattle.jx_top.specs.Outcome.{HasCause};
 ghost use Rattle.jx_top.specs.Words.{IsSerial, AsksForRun, AsksForNothing, texts, file_of};
 
 use crate::request::Request;
@@ -21,14 +22,14 @@ pub fn jx_serial<L: Shelf, K: Sink>(
     sink: &mut K,
 ) -> Status
     requires { IsSerial request.now }
-    ensures leaves { Leaves (K.told sink.old) (K.told sink.new) result }
+    ensures prints { Prints (L.told shelf.old) (file_of request.now) (K.told sink.old) (K.told sink.new) result }
     ensures cause { HasCause (L.told shelf.old) (file_of request.now) result }
     ensures shelf { result ≡ Status.ShelfFault → HasRisen (L.faults shelf.old) (L.faults shelf.new) }
     ensures sink { result ≡ Status.SinkFault → HasRisen (K.faults sink.old) (K.faults sink.new) }
 {
-    let Request::Run { file, workers: _ } = request;
-    match class_of(file.as_str()) {
-        Some(name) => run_class(alloc, file.as_str(), name, shelf, sink),
+    let file = request.file();
+    match class_of(file) {
+        Some(name) => run_class(alloc, file, name, shelf, sink),
         None => unreachable!(),
     }
 }
@@ -42,7 +43,9 @@ pub fn jx_main<R: Threads + Wait + Sync, L: Shelf, K: Sink, G: Gate + Sync>(
     sink: &mut K,
     _gate: &G,
 ) -> Status
-    ensures leaves { Leaves (K.told sink.old) (K.told sink.new) result }
+    // The headline: what is put is the audit of a complete legal history of the system that the files give.
+    ensures prints { (file : List ℕ) → AsksForRun (texts words.now) file → Prints (L.told shelf.old) file (K.told sink.old) (K.told sink.new) result }
+    ensures nothing { result ≡ Status.Usage → K.told sink.new ≡ K.told sink.old }
 
     // The causes of the other statuses.
     ensures usage { (result ≡ Status.Usage) ↔ AsksForNothing (texts words.now) }

@@ -4,7 +4,8 @@ ghost use Rattle.std.specs.Prelude.{◌≡◌};
 ghost use Rattle.jx_model.specs.AuditText.{audit_text};
 ghost use Rattle.jx_model.specs.LinkFaults.{IsLinked};
 ghost use Rattle.jx_model.specs.SingleWorker.{IsSingleWorkerHistory};
-ghost use Rattle.jx_top.specs.FirstSystem.{first_plan, first_files, first_system, first_history, first_audit, EndsQuiet};
+ghost use Rattle.linker_classes.specs.FirstPlan.{first_plan};
+ghost use Rattle.jx_top.specs.FirstSystem.{first_files, first_system, first_history, first_audit, EndsQuiet};
 
 /// The first system is linked, one worker's history of it is complete and ends in quiet, and the audit of that history is
 /// the first audit.

@@ -1,11 +1,11 @@
 //! The top calls: what the program does, for any shelf and any sink.
 #![tactic(auto)]
 
-mod audit;
 mod calls;
 mod first_run;
 mod laws;
 mod lines;
+mod link;
 mod request;
 mod run;
 mod status;

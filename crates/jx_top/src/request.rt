@@ -1,8 +1,20 @@
 //! What the words ask for.
+ghost use Rattle.std.specs.Prelude.{◌≡◌};
+ghost use Rattle.jx_top.specs.Words.{file_of};
 
 /// What a command asks for. `Run` prints the audit of the system that the file describes; a file
 /// `X.class` is a system of that one class. There are 1 to 16 workers.
 #[derive(Drop)]
 pub enum Request {
     Run { file: String, workers: u8 },
+}
+
+impl Request {
+    /// The file that is fetched first.
+    pub fn file(&self) -> &str
+        ensures { result.now ≡ file_of self.now }
+    {
+        let Request::Run { file, workers: _ } = self;
+        file.as_str()
+    }
 }

@@ -2,17 +2,21 @@
 ghost use Rattle.std.specs.Prelude.{◌≡◌, ◌≢◌, ◌↔◌, IsTrue, ◌≤◌, ℕ, List, Result, IsErrOf, IfOk, MatchResult, OnErr, Some, string_bytes, is_some};
 ghost use Rattle.jx_base.specs.Faults.{HasRisen};
 ghost use Rattle.class_reader.specs.FirstClass.{first_class};
-ghost use Rattle.jx_base.specs.Puts.{Puts};
-ghost use Rattle.jx_top.specs.FirstRun.{own_name, printed_text};
+ghost use Rattle.jx_top.specs.FirstRun.{own_name};
+ghost use Rattle.jx_top.specs.FirstSystem.{first_history};
 ghost use Rattle.jx_top.specs.Words.{IsFileOf};
-ghost use Rattle.jx_top.specs.Outcome.{FindsBytes, HasCause, Leaves, HoldsClass, FindsClass, IsPrintAnswer};
+ghost use Rattle.jx_top.specs.Headline.{Prints};
+ghost use Rattle.jx_top.specs.Outcome.{FindsBytes, HasCause, HoldsClass, FindsClass};
+ghost use Rattle.jx_top.specs.Running.{IsRunOf, PrintsClass};
 
-use crate::audit::audit;
 use crate::first_run::{one_class_plan, one_print, own_name, printed_text};
+use crate::link::link;
 use crate::status::Status;
-use audit_text::put_text;
+use audit_text::render;
 use class_reader::{ReadFault, read_class};
-use jx_base::{ClassFile, Failed, Fetch, Listed, OutOfMemory, Shelf, Sink, text_of};
+use jx_base::{
+    ClassFile, Failed, Fetch, History, Listed, OutOfMemory, Shelf, Sink, System, text_of,
+};
 use std::alloc::Global;
 
 fn copy_of(alloc: Global, text: &str) -> Result<String, Status>
@@ -67,19 +71,29 @@ fn known_class(alloc: Global, name: &str, bytes: &[u8]) -> Result<ClassFile, Sta
     }
 }
 
-/// The audit of the run of the class, where it prints a text.
-fn class_audit(alloc: Global, name: &str, file: &ClassFile) -> Result<Option<String>, OutOfMemory>
-    ensures { IfOk result (λ text. is_some text ≡ is_some (printed_text file.now)) }
+/// The history of one worker whose class prints a text.
+fn history_of(alloc: Global, file: &ClassFile) -> Result<History, OutOfMemory>
+    requires { file.now ≡ first_class }
+    ensures { IfOk result (λ history. history ≡ first_history) }
 {
     let Some(printed) = printed_text(file) else {
-        return Ok(None);
+        unreachable!()
     };
-    let plan = one_class_plan(alloc, name)?;
-    let history = one_print(alloc, Listed::from_vec(Vec::from_slice(alloc, printed)?))?;
-    Ok(Some(audit(alloc, &plan, &history)?))
+    one_print(alloc, Listed::from_vec(Vec::from_slice(alloc, printed)?))
 }
 
-/// The class of the file, and its name.
+/// The linked system of the class, and the history of one worker of it.
+fn run(alloc: Global, name: &str, file: &ClassFile) -> Result<(System, History), OutOfMemory>
+    requires class { file.now ≡ first_class }
+    requires name { own_name first_class ≡ Some name.now }
+    ensures { IfOk result (λ run. IsRunOf name.now first_class run.0 run.1) }
+{
+    let system = link(alloc, one_class_plan(alloc, name)?, file)?;
+    let history = history_of(alloc, file)?;
+    Ok((system, history))
+}
+
+/// The class of the file with that name.
 fn find_class<L: Shelf>(
     alloc: Global,
     file: &str,
@@ -87,7 +101,7 @@ fn find_class<L: Shelf>(
     shelf: &mut L,
 ) -> Result<ClassFile, Status>
     requires { IsFileOf file.now name.now }
-    ensures class { FindsClass (L.told shelf.old) file.now result }
+    ensures class { FindsClass (L.told shelf.old) file.now name.now result }
     ensures later { L.faults shelf.old ≤ L.faults shelf.new }
     ensures cause { IsErrOf result Status.ShelfFault → HasRisen (L.faults shelf.old) (L.faults shelf.new) }
 {
@@ -95,19 +109,18 @@ fn find_class<L: Shelf>(
     known_class(alloc, name, &bytes)
 }
 
-/// Puts the audit of the run of the class.
+/// Runs the class and puts its audit.
 fn print_class<K: Sink>(alloc: Global, name: &str, file: &ClassFile, sink: &mut K) -> Status
-    requires { file.now ≡ first_class }
-    ensures leaves { Leaves (K.told sink.old) (K.told sink.new) result }
+    requires class { file.now ≡ first_class }
+    requires name { own_name first_class ≡ Some name.now }
+    ensures prints { PrintsClass name.now first_class (K.told sink.old) (K.told sink.new) result }
     ensures cause { result ≡ Status.SinkFault → HasRisen (K.faults sink.old) (K.faults sink.new) }
-    ensures answer { IsPrintAnswer result }
 {
-    match class_audit(alloc, name, file) {
-        Ok(Some(text)) => match put_text(text.as_str(), sink) {
+    match run(alloc, name, file) {
+        Ok((system, history)) => match render(&system, &history, sink) {
             Ok(()) => Status::Done,
             Err(Failed) => Status::SinkFault,
         },
-        Ok(None) => unreachable!(),
         Err(_) => Status::OutOfMemory,
     }
 }
@@ -121,7 +134,7 @@ pub fn run_class<L: Shelf, K: Sink>(
     sink: &mut K,
 ) -> Status
     requires { IsFileOf file.now name.now }
-    ensures leaves { Leaves (K.told sink.old) (K.told sink.new) result }
+    ensures prints { Prints (L.told shelf.old) file.now (K.told sink.old) (K.told sink.new) result }
     ensures cause { HasCause (L.told shelf.old) file.now result }
     ensures shelf { result ≡ Status.ShelfFault → HasRisen (L.faults shelf.old) (L.faults shelf.new) }
     ensures sink { result ≡ Status.SinkFault → HasRisen (K.faults sink.old) (K.faults sink.new) }

@@ -1,0 +1,4 @@
+pub mod KnownSelectors
+pub mod SourcesByClass
+pub mod KnownCode
+pub mod AllSources

@@ -1,0 +1,12 @@
+//! The methods and the selectors of a linked program.
+#![tactic(auto)]
+
+mod copies;
+mod declarations;
+mod linking;
+mod naming;
+mod reading;
+
+pub use declarations::{Source, sources};
+pub use linking::methods;
+pub use naming::selectors;
