@@ -1,10 +1,13 @@
 -- Entries whose acts have code.
-use Rattle.std.proofs.Common.{◌≡◌, refl, sym, ◌∙◌, ℕ, Bool, true, false, List, [], ◌∷◌, ◌++◌, Option, Some, None, is_some, reverse}
+use Rattle.std.proofs.Common.{◌≡◌, refl, sym, ◌∙◌, ℕ, Bool, true, false, ◌==◌, if◌then◌else◌, List, [], ◌∷◌, ◌++◌, Option, Some, None, is_some, reverse, length, take, get_or, ◌+◌, ◌<◌, eq-eqb}
 use Rattle.std.specs.List.{AllByRecursion}
-use Rattle.std.proofs.lemmas.List.{reverse-reverse}
+use Rattle.std.proofs.lemmas.Bool.{ne_eqb}
+use Rattle.std.proofs.lemmas.List.{reverse-reverse, reverse-append, take_more}
 use Rattle.std.proofs.lemmas.Grind.{reverse_onto}
 use Rattle.jx_base.specs.declared.act.Act.{Act}
 use Rattle.jx_base.specs.declared.act.Act.TheVariants as act
+use Rattle.jx_base.specs.declared.act.Reason.{Reason}
+use Rattle.jx_base.specs.declared.act.Reason.TheVariants as reason
 use Rattle.jx_base.specs.declared.act.Reply.{Reply}
 use Rattle.jx_base.specs.declared.act.Reply.TheVariants as reply
 use Rattle.jx_base.specs.declared.act.Refusal.TheVariants as refusal
@@ -20,7 +23,7 @@ use Rattle.jx_model.specs.Replies.{reply_to, new_domain, ◌refuses◌else◌, g
 use Rattle.jx_model.specs.Legal.{IsNext, IsAdmitted, IsAdmittedPast}
 use Rattle.jx_model.specs.WellMade.{IsBuilt, is_built}
 use Rattle.jx_model.proofs.Numbers.{count_same}
-use Rattle.audit_text.specs.Rendering.{IsBuiltReply, IsBuiltEntry, HasBuiltActs, made_template}
+use Rattle.audit_text.specs.Rendering.{IsBuiltReply, IsBuiltEntry, HasBuiltActs, made_template, own_reason}
 
 -- ---- what all have, in any order
 
@@ -54,6 +57,11 @@ reply_built s past d (act.Create t) h = create_reply _ (first_fit s past (heap_g
 reply_built s past d (act.Print text) h = tt
 reply_built s past d (act.EndThread c) h = tt
 reply_built s past d act.Quiet h = tt
+reply_built s past d (act.Go t) h = tt
+reply_built s past d (act.Exit code) h = tt
+reply_built s past d act.Yield h = tt
+reply_built s past d (act.End why) h = tt
+reply_built s past d act.Halt h = tt
 reply_built s past d _ h = absurd (cc)
 
 next_built : (s : System) (past : Past) (e : Entry) → IsNext s past e → IsBuilt e.act → IsBuiltEntry e
@@ -71,22 +79,69 @@ entries_built s h admitted built =
 
 -- ---- what an act with code doesn't do
 
-no_end : (d : ℕ) (a : Act) (r : Reply) → IsBuilt a → ended_by_act d a r ≡ None
-unfolding is_built ended_by_act
-no_end d (act.Create t) r h = refl
-no_end d (act.Print text) r h = refl
-no_end d (act.EndThread c) r h = refl
-no_end d act.Quiet r h = refl
-no_end d _ r h = absurd (cc)
+-- why the domain d ends by an act of the domain by, where it does
+unfoldable pub reason_if : Bool → Option Reason → Option Reason
+reason_if true why = why
+reason_if false why = None
 
-pub ended-none : (e : Entry) → IsBuiltEntry e → ended_by e ≡ None
+none_if : (b : Bool) → None ≡ reason_if b None
+unfolding reason_if
+none_if true = refl
+none_if false = refl
+
+same_if : (b : Bool) (why : Reason) → (if b then Some why else None) ≡ reason_if b (Some why)
+unfolding reason_if
+same_if true why = refl
+same_if false why = refl
+
+reason_of : (d by : ℕ) (a : Act) (r : Reply) → IsBuilt a → reason_for (ended_by_act by a r) d ≡ reason_if (by == d) (own_reason a)
+unfolding is_built ended_by_act reason_for own_reason reason_if
+reason_of d by (act.Create t) r h = none_if (by == d)
+reason_of d by (act.Print text) r h = none_if (by == d)
+reason_of d by (act.Go t) r h = none_if (by == d)
+reason_of d by (act.Exit code) r h = same_if (by == d) (reason.Exit code)
+reason_of d by act.Yield r h = none_if (by == d)
+reason_of d by (act.EndThread c) r h = none_if (by == d)
+reason_of d by (act.End why) r h = same_if (by == d) why
+reason_of d by act.Quiet r h = none_if (by == d)
+reason_of d by act.Halt r h = none_if (by == d)
+reason_of d by _ r h = absurd (cc)
+
+-- by entries whose acts have code, domains end by their own acts alone
+pub reason_for-built : (e : Entry) (d : ℕ) → IsBuiltEntry e → reason_for (ended_by e) d ≡ reason_if (e.domain.0 == d) (own_reason e.act)
 unfolding ended_by
-ended-none e h = no_end e.domain.0 e.act e.reply h.act
+reason_for-built e d h = reason_of d e.domain.0 e.act e.reply h.act
 
-pub none_ended : (past : Past) (d : ℕ) → AllByRecursion IsBuiltEntry past → end_reason past d ≡ None
-unfolding end_reason reason_for
-none_ended [] d h = refl
-none_ended (e ∷ past) d h = rw (ended-none e h.0, end_reason) (none_ended past d h.1)
+-- why the acting domain ends, and that no other does
+pub reason_for-own : (e : Entry) (d : ℕ) → IsBuiltEntry e → e.domain.0 ≡ d → reason_for (ended_by e) d ≡ own_reason e.act
+unfolding reason_if
+reason_for-own e d h same = let test : (e.domain.0 == d) ≡ true = eq-eqb e.domain.0 d same in reason_for-built e d h ∙ rw test refl
+
+pub reason_for-other : (e : Entry) (d : ℕ) → IsBuiltEntry e → (e.domain.0 ≡ d → ⊥) → reason_for (ended_by e) d ≡ None
+unfolding reason_if
+reason_for-other e d h other = let test : (e.domain.0 == d) ≡ false = ne_eqb e.domain.0 d other in reason_for-built e d h ∙ rw test refl
+
+-- the entries up to one more, the newest first
+end_reason-last : (entries : List Entry) (place : ℕ) (x : Entry) (d : ℕ) → x ≡ get_or entries place x → place < length entries →
+    reverse (take (place + 1) entries) ≡ x ∷ reverse (take place entries)
+end_reason-last entries place x d is lt =
+    rw (take_more entries place x lt, ← is, reverse-append (take place entries) (x ∷ [])) refl
+
+reason_first : (x : Entry) (past : Past) (d : ℕ) (why : Reason) → reason_for (ended_by x) d ≡ Some why → end_reason (x ∷ past) d ≡ Some why
+unfolding end_reason
+reason_first x past d why found = rw (found, end_reason) refl
+
+reason_before : (x : Entry) (past : Past) (d : ℕ) → reason_for (ended_by x) d ≡ None → end_reason (x ∷ past) d ≡ end_reason past d
+unfolding end_reason
+reason_before x past d none = rw (none, end_reason) refl
+
+pub end_reason-found : (entries : List Entry) (place : ℕ) (x : Entry) (d : ℕ) (why : Reason) → x ≡ get_or entries place x → place < length entries →
+    reason_for (ended_by x) d ≡ Some why → end_reason (reverse (take (place + 1) entries)) d ≡ Some why
+end_reason-found entries place x d why is lt found = rw (end_reason-last entries place x d is lt) (reason_first x (reverse (take place entries)) d why found)
+
+pub end_reason-same : (entries : List Entry) (place : ℕ) (x : Entry) (d : ℕ) → x ≡ get_or entries place x → place < length entries →
+    reason_for (ended_by x) d ≡ None → end_reason (reverse (take (place + 1) entries)) d ≡ end_reason (reverse (take place entries)) d
+end_reason-same entries place x d is lt none = rw (end_reason-last entries place x d is lt) (reason_before x (reverse (take place entries)) d none)
 
 no_call : (a : Act) → IsBuilt a → asked_by a ≡ None
 unfolding is_built asked_by
@@ -94,6 +149,11 @@ no_call (act.Create t) h = refl
 no_call (act.Print text) h = refl
 no_call (act.EndThread c) h = refl
 no_call act.Quiet h = refl
+no_call (act.Go t) h = refl
+no_call (act.Exit code) h = refl
+no_call act.Yield h = refl
+no_call (act.End why) h = refl
+no_call act.Halt h = refl
 no_call _ h = absurd (cc)
 
 is_call-false : (e : Entry) → IsBuiltEntry e → is_call e ≡ false
@@ -111,6 +171,11 @@ no_extent (act.Create t) r h = refl
 no_extent (act.Print text) r h = refl
 no_extent (act.EndThread c) r h = refl
 no_extent act.Quiet r h = refl
+no_extent (act.Go t) r h = refl
+no_extent (act.Exit code) r h = refl
+no_extent act.Yield r h = refl
+no_extent (act.End why) r h = refl
+no_extent act.Halt r h = refl
 no_extent _ r h = absurd (cc)
 
 is_allocation-false : (e : Entry) → IsBuiltEntry e → is_allocation e ≡ false
@@ -135,6 +200,11 @@ births (act.Create t) r h = create_births t r
 births (act.Print text) r h = refl
 births (act.EndThread c) r h = refl
 births act.Quiet r h = refl
+births (act.Go t) r h = refl
+births (act.Exit code) r h = refl
+births act.Yield r h = refl
+births (act.End why) r h = refl
+births act.Halt r h = refl
 births _ r h = absurd (cc)
 
 -- an act with code makes a domain by a create

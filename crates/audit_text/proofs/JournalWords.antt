@@ -8,11 +8,11 @@ use Rattle.jx_base.specs.declared.act.Reply.{Reply}
 use Rattle.jx_base.specs.declared.act.Reply.TheVariants as reply
 use Rattle.jx_base.specs.declared.act.Entry.{Entry}
 use Rattle.jx_base.specs.declared.program.System.{System}
-use Rattle.jx_model.specs.Limits.{journal_limit}
+use Rattle.jx_model.specs.Limits.{journal_limit, text_limit, entry_limit}
 use Rattle.jx_model.specs.Histories.{Past, words_of, entry_words, act_words, reply_words, is_full}
-use Rattle.jx_model.specs.Permits.{acting_thread, zero_may, zero_may_now, domains_wait, domain_thread, is_halt, is_over, next_boot}
-use Rattle.jx_model.specs.Legal.{IsAdmittedPast}
-use Rattle.jx_model.specs.WellMade.{IsBuilt, is_built}
+use Rattle.jx_model.specs.Permits.{acting_thread, zero_may, zero_may_now, domains_wait, domain_thread, is_ending, is_halt, is_over, next_boot}
+use Rattle.jx_model.specs.Legal.{IsNext, IsAdmittedPast}
+use Rattle.jx_model.specs.WellMade.{IsWellMade, IsBuilt, is_built}
 use Rattle.jx_model.specs.AuditText.{before_last}
 use Rattle.audit_text.specs.Rendering.{IsBuiltEntry, IsBuiltReply}
 use Rattle.audit_text.proofs.Sums.{entry_sum}
@@ -21,14 +21,6 @@ pub words-sum : (past : Past) → words_of past ≡ entry_sum entry_words past
 unfolding words_of entry_sum
 words-sum [] = refl
 words-sum (e ∷ past) = omega (arith, words-sum past)
-
-not_halt : (a : Act) → IsBuilt a → is_halt a ≡ false
-unfolding is_built is_halt
-not_halt (act.Create t) h = refl
-not_halt (act.Print text) h = refl
-not_halt (act.EndThread c) h = refl
-not_halt act.Quiet h = refl
-not_halt _ h = absurd (cc)
 
 -- in a full journal the halt alone may come
 full_stops : (over domain_zero full boots halt may : Bool) (o : Option ℕ) (t : ℕ) →
@@ -40,18 +32,28 @@ full_stops false true true boots true may o t h other = cc
 full_stops false true true boots false may o t h other = cc
 full_stops false false true boots halt may o t h other = cc
 
-room_left : (s : System) (past : Past) (d : ℕ) (a : Act) (t : ℕ) → IsBuilt a → acting_thread s past d a ≡ Some t → is_full s past ≡ false
+room_left : (s : System) (past : Past) (d : ℕ) (a : Act) (t : ℕ) → is_halt a ≡ false → acting_thread s past d a ≡ Some t → is_full s past ≡ false
 unfolding acting_thread zero_may_now domains_wait
-room_left s past d a t h may =
-    full_stops (is_over past) (d == 0) (is_full s past) (is_some (next_boot s past)) (is_halt a) (zero_may s past a) (domain_thread past d a) t may (not_halt a h)
+room_left s past d a t other may =
+    full_stops (is_over past) (d == 0) (is_full s past) (is_some (next_boot s past)) (is_halt a) (zero_may s past a) (domain_thread past d a) t may other
 
--- the entries before the last one of an admitted history cost no more words than the journal has
-pub words_small : (s : System) (past : Past) → IsAdmittedPast s past → AllByRecursion IsBuiltEntry past → words_of (before_last past) ≤ journal_limit s
-unfolding before_last words_of is_full
-words_small s [] admitted h = omega arith
-words_small s (e ∷ past) admitted h =
-    let room : is_full s past ≡ false = room_left s past e.domain.0 e.act e.thread.0 h.0.act admitted.0.thread in
-    grind (arith, nat_tests)
+-- after a run is over nothing may come
+over_stops : (over : Bool) (o : Option ℕ) (t : ℕ) → (if over then None else o) ≡ Some t → over ≡ false
+over_stops true o t h = cc
+over_stops false o t h = refl
+
+not_over : (s : System) (past : Past) (d : ℕ) (a : Act) (t : ℕ) → acting_thread s past d a ≡ Some t → is_over past ≡ false
+unfolding acting_thread
+not_over s past d a t may = over_stops (is_over past) _ t may
+
+no_ending : (a : Act) (rest : Bool) → (is_ending a || rest) ≡ false → is_halt a ≡ false
+unfolding is_ending is_halt
+no_ending act.Halt rest h = cc
+no_ending _ rest h = refl
+
+before_halt : (e : Entry) (past : Past) → is_over (e ∷ past) ≡ false → is_halt e.act ≡ false
+unfolding is_over
+before_halt e past h = no_ending e.act _ h
 
 no_reply_words : (r : Reply) → IsBuiltReply r → reply_words r ≡ 0
 unfolding reply_words
@@ -60,12 +62,53 @@ no_reply_words (reply.Domain d g) k = refl
 no_reply_words (reply.Refused r) k = refl
 no_reply_words _ k = absurd k
 
+act_words_below : (s : System) (past : Past) (a : Act) (r : Reply) → IsBuilt a → IsBuiltReply r → IsWellMade s past a → 8 + act_words a + reply_words r ≤ 4104
+unfolding is_built act_words text_limit
+act_words_below s past (act.Print text) r h k well_made = omega (arith, no_reply_words r k, well_made.short)
+act_words_below s past (act.Create t) r h k well_made = omega (arith, no_reply_words r k)
+act_words_below s past (act.Go t) r h k well_made = omega (arith, no_reply_words r k)
+act_words_below s past (act.Exit code) r h k well_made = omega (arith, no_reply_words r k)
+act_words_below s past act.Yield r h k well_made = omega (arith, no_reply_words r k)
+act_words_below s past (act.EndThread c) r h k well_made = omega (arith, no_reply_words r k)
+act_words_below s past (act.End why) r h k well_made = omega (arith, no_reply_words r k)
+act_words_below s past act.Quiet r h k well_made = omega (arith, no_reply_words r k)
+act_words_below s past act.Halt r h k well_made = omega (arith, no_reply_words r k)
+act_words_below s past _ r h k well_made = absurd (cc)
+
+-- an entry costs at most what the journal keeps free for one
+entry_below : (s : System) (past : Past) (e : Entry) → IsNext s past e → IsBuiltEntry e → entry_words e ≤ 4104
+unfolding entry_words
+entry_below s past e next h = act_words_below s past e.act e.reply h.act h.reply next.well_made
+
+words_before : (s : System) (past : Past) (e : Entry) (halts : Bool) → is_halt e.act ≡ halts → IsNext s past e → IsAdmittedPast s past → AllByRecursion IsBuiltEntry past → words_of past ≤ journal_limit s
+unfolding words_of is_full entry_limit
+words_before s past e false other next admitted built =
+    let room : is_full s past ≡ false = room_left s past e.domain.0 e.act e.thread.0 other next.thread in
+    grind (arith, nat_tests)
+words_before s [] e true halts next admitted built = omega arith
+words_before s (f ∷ past) e true halts next admitted built =
+    let before : is_halt f.act ≡ false = before_halt f past (not_over s (f ∷ past) e.domain.0 e.act e.thread.0 next.thread) in
+    let room : is_full s past ≡ false = room_left s past f.domain.0 f.act f.thread.0 before admitted.0.thread in
+    let cost : entry_words f ≤ 4104 = entry_below s past f admitted.0 built.0 in
+    grind (arith, nat_tests)
+
+-- the entries before the last one of an admitted history cost no more words than the journal has
+pub words_small : (s : System) (past : Past) → IsAdmittedPast s past → AllByRecursion IsBuiltEntry past → words_of (before_last past) ≤ journal_limit s
+unfolding before_last words_of
+words_small s [] admitted h = omega arith
+words_small s (e ∷ past) admitted h = words_before s past e (is_halt e.act) refl admitted.0 admitted.1 h.1
+
 words_built : (a : Act) (r : Reply) → IsBuilt a → IsBuiltReply r → ((text : List ℕ) → a ≡ act.Print text → ⊥) → 8 + act_words a + reply_words r ≡ 8
 unfolding is_built act_words
 words_built (act.Create t) r h k other = omega (arith, no_reply_words r k)
 words_built (act.Print text) r h k other = absurd (other text refl)
 words_built (act.EndThread c) r h k other = omega (arith, no_reply_words r k)
 words_built act.Quiet r h k other = omega (arith, no_reply_words r k)
+words_built (act.Go t) r h k other = omega (arith, no_reply_words r k)
+words_built (act.Exit code) r h k other = omega (arith, no_reply_words r k)
+words_built act.Yield r h k other = omega (arith, no_reply_words r k)
+words_built (act.End why) r h k other = omega (arith, no_reply_words r k)
+words_built act.Halt r h k other = omega (arith, no_reply_words r k)
 words_built _ r h k other = absurd (cc)
 
 pub entry_words-plain : (e : Entry) → IsBuiltEntry e → ((text : List ℕ) → e.act ≡ act.Print text → ⊥) → entry_words e ≡ 8

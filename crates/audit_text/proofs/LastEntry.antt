@@ -30,13 +30,18 @@ pub end_word-last : (entries front : List Entry) (last : Entry) → entries ≡ 
 unfolding end_word
 end_word-last entries front last is = rw (is, reverse-append front (last ∷ [])) refl
 
-pub end_word-open : (a : Act) → IsBuilt a → (a ≡ act.Quiet → ⊥) → end_word_of a ≡ codes "open"
+pub end_word-open : (a : Act) → IsBuilt a → (a ≡ act.Quiet → ⊥) → (a ≡ act.Halt → ⊥) → end_word_of a ≡ codes "open"
 unfolding is_built end_word_of
-end_word-open (act.Create t) h other = refl
-end_word-open (act.Print text) h other = refl
-end_word-open (act.EndThread c) h other = refl
-end_word-open act.Quiet h other = absurd (other refl)
-end_word-open _ h other = absurd (cc)
+end_word-open (act.Create t) h other more = refl
+end_word-open (act.Print text) h other more = refl
+end_word-open (act.EndThread c) h other more = refl
+end_word-open act.Quiet h other more = absurd (other refl)
+end_word-open act.Halt h other more = absurd (more refl)
+end_word-open (act.Go t) h other more = refl
+end_word-open (act.Exit code) h other more = refl
+end_word-open act.Yield h other more = refl
+end_word-open (act.End why) h other more = refl
+end_word-open _ h other more = absurd (cc)
 
 pub front_built : (entries front : List Entry) (last : Entry) → entries ≡ front ++ (last ∷ []) → AllByRecursion IsBuiltEntry entries → AllByRecursion IsBuiltEntry front × IsBuiltEntry last
 front_built entries front last is h = let parts = all_of_append IsBuiltEntry front (last ∷ []) (rw is at h) in (parts.0, parts.1.0)

@@ -1,6 +1,6 @@
 -- One text after another.
 use Rattle.std.specs.Prelude.{◌≡◌, ◌≤◌, ℕ, List, [], ◌∷◌, ◌++◌, Option, Some, None, Result, Ok, Err, refl}
-use Rattle.std.proofs.Common.{ap, sym, ◌∙◌, ◌<◌, ◌+◌, append_assoc, append-nil, add-one, arith, length, drop, get_or, drop-cons}
+use Rattle.std.proofs.Common.{ap, sym, subst, ◌∙◌, ◌<◌, ◌+◌, append_assoc, append-nil, add-one, arith, length, drop, get_or, drop-cons}
 use Rattle.std.specs.List.{flat_map}
 use Rattle.std.proofs.lemmas.List.{drop_all}
 use Rattle.jx_base.specs.declared.sink.Failed.{Failed}
@@ -60,6 +60,10 @@ writes_stop a b {o0 = o0} p = record {
   later = p.later;
   cause = p.cause;
 }
+
+-- the same text, told otherwise
+pub writes_as : {a b : List ℕ} {o0 o1 : Output} {r : Result (Unit {0}) Failed} → a ≡ b → Writes b o0 o1 r → Writes a o0 o1 r
+writes_as {o0 = o0} {o1 = o1} {r = r} same p = subst (λ (text : List ℕ). Writes text o0 o1 r) (sym same) p
 
 -- nothing was written
 pub writes_nothing : {o : Output} {u : Unit {0}} → Writes [] o o (Ok u)

@@ -1,15 +1,18 @@
 -- What can be rendered by now: histories whose acts have code.
-use Rattle.std.specs.Prelude.{ℕ, List, [], ◌∷◌, Option, Some, None, codes, decimal}
+use Rattle.std.specs.Prelude.{ℕ, ◌+◌, List, [], ◌∷◌, ◌++◌, Option, Some, None, codes, decimal}
 use Rattle.std.specs.List.{AllByRecursion, flat_map}
 use Rattle.jx_base.specs.declared.act.Act.{Act}
 use Rattle.jx_base.specs.declared.act.Act.TheVariants as act
 use Rattle.jx_base.specs.declared.act.Entry.{Entry}
+use Rattle.jx_base.specs.declared.act.Reason.{Reason}
+use Rattle.jx_base.specs.declared.act.Reason.TheVariants as reason
 use Rattle.jx_base.specs.declared.act.Reply.{Reply}
 use Rattle.jx_base.specs.declared.act.Reply.TheVariants as reply
 use Rattle.jx_base.specs.declared.act.History.{History}
 use Rattle.jx_base.specs.declared.program.System.{System}
-use Rattle.jx_base.specs.Texts.{after_space, spaced, line}
+use Rattle.jx_base.specs.Texts.{after_space, spaced}
 use Rattle.jx_model.specs.Audit.{template_text, act_word, act_operands, reply_word, reply_operands}
+use Rattle.jx_model.specs.AuditText.{standing_words}
 use Rattle.jx_model.specs.WellMade.{IsBuilt}
 
 -- the reply is one to an act with code
@@ -45,6 +48,30 @@ unfoldable pub made_template : Act → Reply → Option ℕ
 made_template (act.Create t) (reply.Domain d g) = Some t
 made_template _ _ = None
 
--- the line of a live domain, by its number, its template and its creator
-unfoldable pub live_line : System → ℕ → ℕ → ℕ → List ℕ
-live_line s d t creator = line (decimal d ∷ template_text s t ∷ codes "by" ∷ decimal creator ∷ codes "live" ∷ [])
+-- the first words of a domain's line: its number, its template and its creator
+unfoldable pub domain_text : System → ℕ → ℕ → ℕ → List ℕ
+domain_text s d t creator = spaced (decimal d ∷ template_text s t ∷ codes "by" ∷ decimal creator ∷ [])
+
+-- the words of how a domain stands, each behind a space
+unfoldable pub standing_text : Option Reason → List ℕ
+standing_text why = flat_map after_space (standing_words why)
+
+-- the line of a domain, by its number, its template, its creator and how it stands
+unfoldable pub whole_line : System → ℕ → ℕ → ℕ → Option Reason → List ℕ
+whole_line s d t creator why = domain_text s d t creator ++ (standing_text why ++ codes "\n")
+
+-- why the domain that acts ends by an act with code, if it does
+unfoldable pub own_reason : Act → Option Reason
+own_reason (act.Exit code) = Some (reason.Exit code)
+own_reason (act.End why) = Some why
+own_reason _ = None
+
+-- the sum of numbers
+unfoldable pub total : List ℕ → ℕ
+total [] = 0
+total (n ∷ ns) = n + total ns
+
+-- a number, where the domain did not end
+unfoldable pub where_live : Option Reason → ℕ → List ℕ
+where_live None n = n ∷ []
+where_live (Some why) n = []

@@ -2,15 +2,15 @@
 ghost use Rattle.std.specs.Prelude.{◌≡◌, reverse};
 ghost use Rattle.std.specs.List.{AllByRecursion, flat_map};
 ghost use Rattle.jx_model.specs.Words.{up_to};
-ghost use Rattle.jx_model.specs.Domains.{domains_made};
+ghost use Rattle.jx_model.specs.Domains.{domains_made, ended_by, reason_for, end_reason};
 ghost use Rattle.jx_model.specs.AuditText.{domain_line};
-ghost use Rattle.audit_text.specs.Rendering.{IsBuiltEntry, made_template, live_line};
+ghost use Rattle.audit_text.specs.Rendering.{IsBuiltEntry, made_template, own_reason, standing_text, domain_text, whole_line};
 ghost use Rattle.audit_text.specs.Writes.{Writes, output};
 
 use crate::entries::template_name;
 use crate::page::Page;
-use crate::pieces::{Piece, write_line};
-use jx_base::{Act, DomainId, Entry, Failed, Reply, Sink, System};
+use crate::pieces::{Piece, write_behind, write_words};
+use jx_base::{Act, DomainId, Entry, Failed, Reason, Reply, Sink, System};
 
 /// The template of the domain that the entry made.
 #[tactic(auto, unfolding(crate::specs::Rendering::made_template))]
@@ -23,8 +23,66 @@ pub fn made_template(entry: &Entry) -> Option<u32>
     }
 }
 
-#[tactic(auto, unfolding(crate::specs::Rendering::live_line, crate::specs::Pieces::piece_text))]
-fn write_domain<K: Sink>(
+/// Why the domain ends by the entry, if it does.
+fn reason_of(entry: &Entry, domain: u64) -> Option<Reason>
+    requires { IsBuiltEntry entry.now }
+    ensures { result ≡ reason_for (ended_by entry.now) domain }
+{
+    if u64::from(entry.domain.0) == domain {
+        own_reason(&entry.act)
+    } else {
+        None
+    }
+}
+
+/// Why the domain that acts ends by its act, if it does.
+#[tactic(auto, unfolding(crate::specs::Rendering::own_reason))]
+fn own_reason(act: &Act) -> Option<Reason>
+    ensures { result ≡ own_reason act.now }
+{
+    match act {
+        Act::Exit(code) => Some(Reason::Exit(*code)),
+        Act::End(why) => Some(*why),
+        _ => None,
+    }
+}
+
+/// Why the domain ended, if it did.
+pub fn end_reason(entries: &[Entry], domain: u64) -> Option<Reason>
+    requires { AllByRecursion IsBuiltEntry entries.now }
+    ensures { result ≡ end_reason (reverse entries.now) domain }
+{
+    let mut found = None;
+    for entry in entries {
+        if let Some(why) = reason_of(entry, domain) {
+            found = Some(why);
+        }
+    }
+    found
+}
+
+/// Writes how a domain stands, each word behind a space.
+#[tactic(auto, unfolding(crate::specs::Rendering::standing_text, crate::specs::Pieces::piece_text, jx_model::specs::AuditText::standing_words, jx_model::specs::Audit::reason_words))]
+fn write_standing<K: Sink>(why: Option<Reason>, page: &mut Page, sink: &mut K) -> Result<(), Failed>
+    ensures { Writes (standing_text why) (output (K.told sink.old) page.old (K.faults sink.old)) (output (K.told sink.new) page.new (K.faults sink.new)) result }
+{
+    let ended = Piece::Plain("ended");
+    match why {
+        None => write_behind(&[Piece::Plain("live")], page, sink),
+        Some(Reason::Exit(code)) => write_behind(
+            &[ended, Piece::Plain("exit"), Piece::Signed(code)],
+            page,
+            sink,
+        ),
+        Some(Reason::Killed) => write_behind(&[ended, Piece::Plain("killed")], page, sink),
+        Some(Reason::Fuel) => write_behind(&[ended, Piece::Plain("fuel")], page, sink),
+        Some(Reason::BadCode) => write_behind(&[ended, Piece::Plain("badcode")], page, sink),
+    }
+}
+
+/// Writes the number, the template and the creator of a domain.
+#[tactic(auto, unfolding(crate::specs::Rendering::domain_text, crate::specs::Pieces::piece_text))]
+fn write_origin<K: Sink>(
     system: &System,
     domain: u64,
     template: u32,
@@ -32,20 +90,43 @@ fn write_domain<K: Sink>(
     page: &mut Page,
     sink: &mut K,
 ) -> Result<(), Failed>
-    ensures { Writes (live_line system.now domain template creator.0) (output (K.told sink.old) page.old (K.faults sink.old)) (output (K.told sink.new) page.new (K.faults sink.new)) result }
+    ensures { Writes (domain_text system.now domain template creator.0) (output (K.told sink.old) page.old (K.faults sink.old)) (output (K.told sink.new) page.new (K.faults sink.new)) result }
 {
     let name = template_name(system, template);
-    write_line(
+    write_words(
         &[
             Piece::Number(domain),
             Piece::Quoted(name),
             Piece::Plain("by"),
             Piece::Number(u64::from(creator.0)),
-            Piece::Plain("live"),
         ],
         page,
         sink,
     )
+}
+
+/// A domain that an entry made.
+#[derive(Clone, Copy)]
+struct Born {
+    domain: u64,
+    template: u32,
+    creator: DomainId,
+}
+
+/// Writes the line of a domain.
+#[tactic(auto, unfolding(crate::specs::Rendering::whole_line))]
+fn write_domain<K: Sink>(
+    system: &System,
+    born: Born,
+    why: Option<Reason>,
+    page: &mut Page,
+    sink: &mut K,
+) -> Result<(), Failed>
+    ensures { Writes (whole_line system.now born.domain born.template born.creator.0 why) (output (K.told sink.old) page.old (K.faults sink.old)) (output (K.told sink.new) page.new (K.faults sink.new)) result }
+{
+    write_origin(system, born.domain, born.template, born.creator, page, sink)?;
+    write_standing(why, page, sink)?;
+    page.write_byte(b'\n', sink)
 }
 
 /// Writes a line for each domain.
@@ -62,7 +143,13 @@ pub fn write_domains<K: Sink>(
     for entry in entries {
         if let Some(template) = made_template(entry) {
             domains += 1;
-            write_domain(system, domains, template, entry.domain, page, sink)?;
+            let born = Born {
+                domain: domains,
+                template,
+                creator: entry.domain,
+            };
+            let why = end_reason(entries, domains);
+            write_domain(system, born, why, page, sink)?;
         }
     }
     Ok(())

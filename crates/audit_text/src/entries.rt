@@ -11,7 +11,7 @@ ghost use Rattle.jx_base.specs.Texts.{quoted};
 
 use crate::page::Page;
 use crate::pieces::{Piece, write_behind, write_words};
-use jx_base::{Act, ClassId, Entry, Failed, Refusal, Reply, Sink, System};
+use jx_base::{Act, ClassId, Entry, Failed, Reason, Refusal, Reply, Sink, System};
 
 /// The name of the template, or none where there is no such.
 #[tactic(auto, unfolding(jx_model::specs::Audit::template_text, jx_model::specs::Lookup::template_at))]
@@ -78,6 +78,28 @@ fn write_end_thread<K: Sink>(
     }
 }
 
+#[tactic(auto, unfolding(crate::specs::Rendering::spaced_act, crate::specs::Pieces::piece_text, jx_model::specs::Audit::act_word, jx_model::specs::Audit::act_operands, jx_model::specs::Audit::reason_words))]
+fn write_end<K: Sink>(
+    system: &System,
+    why: Reason,
+    page: &mut Page,
+    sink: &mut K,
+) -> Result<(), Failed>
+    ensures { Writes (spaced_act system.now (Act.End why)) (output (K.told sink.old) page.old (K.faults sink.old)) (output (K.told sink.new) page.new (K.faults sink.new)) result }
+{
+    let end = Piece::Plain("end");
+    match why {
+        Reason::Exit(code) => write_behind(
+            &[end, Piece::Plain("exit"), Piece::Signed(code)],
+            page,
+            sink,
+        ),
+        Reason::Killed => write_behind(&[end, Piece::Plain("killed")], page, sink),
+        Reason::Fuel => write_behind(&[end, Piece::Plain("fuel")], page, sink),
+        Reason::BadCode => write_behind(&[end, Piece::Plain("badcode")], page, sink),
+    }
+}
+
 /// Writes the words of the act, each behind a space.
 #[tactic(auto, unfolding(crate::specs::Rendering::spaced_act, crate::specs::Pieces::piece_text, jx_model::specs::Audit::act_word, jx_model::specs::Audit::act_operands, jx_model::specs::WellMade::is_built))]
 fn write_act<K: Sink>(
@@ -99,8 +121,15 @@ fn write_act<K: Sink>(
             page,
             sink,
         ),
+        Act::Go(_) => write_behind(&[Piece::Plain("go")], page, sink),
+        Act::Exit(code) => {
+            write_behind(&[Piece::Plain("exit"), Piece::Signed(*code)], page, sink)
+        }
+        Act::Yield => write_behind(&[Piece::Plain("yield")], page, sink),
         Act::EndThread(exception) => write_end_thread(system, *exception, page, sink),
+        Act::End(why) => write_end(system, *why, page, sink),
         Act::Quiet => write_behind(&[Piece::Plain("quiet")], page, sink),
+        Act::Halt => write_behind(&[Piece::Plain("halt")], page, sink),
         _ => unreachable!(),
     }
 }

@@ -5,13 +5,13 @@ ghost use Rattle.jx_model.specs.AuditText.{before_last, end_word, total_line, to
 ghost use Rattle.jx_model.specs.Granules.{heap_granules, used_granules};
 ghost use Rattle.jx_model.specs.Histories.{entry_words, words_of};
 ghost use Rattle.jx_model.specs.Legal.{IsAdmittedPast};
-ghost use Rattle.audit_text.specs.Rendering.{IsBuiltEntry};
+ghost use Rattle.audit_text.specs.Rendering.{IsBuiltEntry, total, where_live};
 ghost use Rattle.audit_text.specs.Writes.{Writes, output};
 
-use crate::domains::made_template;
+use crate::domains::{end_reason, made_template};
 use crate::page::Page;
 use crate::pieces::{Piece, write_line};
-use jx_base::{Act, Entry, Failed, Sink, System};
+use jx_base::{Act, Entry, Failed, Reason, Sink, System};
 
 fn wide(n: u32) -> u64
     ensures same { result ≡ n }
@@ -32,16 +32,30 @@ fn heap_granules(system: &System, template: u32) -> u64
     }
 }
 
+/// The granules that a domain of the template has in use, if it has not ended.
+#[tactic(auto, unfolding(crate::specs::Rendering::total, crate::specs::Rendering::where_live))]
+fn granules_of(system: &System, template: u32, why: Option<Reason>) -> u64
+    ensures granules { result ≡ total (where_live why (heap_granules system.now template)) }
+    ensures small { result ≤ 2 ^ 29 }
+{
+    match why {
+        None => heap_granules(system, template),
+        Some(_) => 0,
+    }
+}
+
 /// How many granules are in use.
 fn used_granules(system: &System, entries: &[Entry]) -> u64
     requires admitted { IsAdmittedPast system.now (reverse entries.now) }
     requires built { AllByRecursion IsBuiltEntry entries.now }
     ensures { result ≡ used_granules system.now (reverse entries.now) }
 {
+    let mut domains: u64 = 0;
     let mut used: u64 = 0;
     for entry in entries {
         if let Some(template) = made_template(entry) {
-            used += heap_granules(system, template);
+            domains += 1;
+            used += granules_of(system, template, end_reason(entries, domains));
         }
     }
     used
@@ -94,6 +108,7 @@ fn end_word(entries: &[Entry]) -> &'static str
         None => "open",
         Some((last, _)) => match &last.act {
             Act::Quiet => "quiet",
+            Act::Halt => "halt",
             _ => "open",
         },
     }

@@ -1,10 +1,19 @@
 //! Reads class files.
 #![tactic(auto)]
 
+mod class;
+mod code;
+mod constants;
+mod descriptors;
 mod error;
-mod first_class;
-mod read;
+mod laws;
+mod members;
+mod names;
+mod numbers;
+mod pool;
+mod utf8;
 
+pub use class::read_class;
 pub use error::ReadFault;
-pub use first_class::FIRST_CLASS;
-pub use read::read_class;
+pub use laws::one_reading;
+pub use utf8::{utf8_read, utf8_write};

@@ -6,14 +6,19 @@ mod edge;
 use edge::{FolderShelf, StreamSink};
 use jx_base::{OpenGate, OutOfMemory};
 use jx_top::{Status, jx_main, status_line, status_number};
+use std::alloc::AllocError;
+use std::io::ErrorKind;
 use std::process::ExitCode;
 use std::{env, io};
 
-/// The words behind the program's name. Words that can't be had are none.
+/// The words behind the program's name. Words that aren't UTF-8 are none.
 fn words(rt: &HostRuntime) -> Result<Vec<String>, OutOfMemory> {
     match env::args(rt) {
         Ok(args) => args.skip(1).collect(rt.alloc()),
-        Err(_) => Ok(Vec::new(rt.alloc())),
+        Err(error) => match error.kind() {
+            ErrorKind::OutOfMemory => Err(AllocError),
+            _ => Ok(Vec::new(rt.alloc())),
+        },
     }
 }
 

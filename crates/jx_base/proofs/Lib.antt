@@ -1,0 +1,4 @@
+pub mod ClassRows
+pub mod PartLaws
+pub mod Repeats
+pub mod CodeLengths

@@ -6,7 +6,7 @@ use Rattle.jx_base.specs.declared.row.Form.TheVariants as form
 use Rattle.jx_base.specs.declared.program.Class.{Class}
 use Rattle.jx_base.specs.declared.program.Field.{Field}
 use Rattle.jx_model.specs.BuiltIn.{built_in_table}
-use Rattle.jx_model.specs.Opcodes.{opcode_at, form_at}
+use Rattle.jx_base.specs.Opcodes.{opcode_at, form_at}
 use Rattle.jx_model.specs.Opened.{opened_model}
 
 -- ---- opcodes

@@ -13,7 +13,7 @@ use Rattle.jx_base.specs.declared.row.Row.{Row}
 use Rattle.jx_base.specs.declared.row.Row.TheVariants as row
 use Rattle.jx_model.specs.Words.{mapped}
 use Rattle.jx_model.specs.Types.{element_type}
-use Rattle.jx_model.specs.Opcodes.{row_at}
+use Rattle.jx_base.specs.Opcodes.{row_at}
 use Rattle.jx_model.specs.Instructions.{index_operand, instructions_of}
 use Rattle.jx_model.specs.Lookup.{type_of_name}
 

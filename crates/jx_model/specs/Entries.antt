@@ -25,9 +25,10 @@ use Rattle.jx_base.specs.declared.value.Value.TheVariants as value
 use Rattle.jx_model.specs.Words.{and_then, mapped, or_zero}
 use Rattle.jx_model.specs.Types.{Signature, signature_of, is_void}
 use Rattle.jx_model.specs.BuiltIn.{throwable_class, copy_exception, ended_exception, dropped_exception, revoked_exception, range_exception, refused_exception}
-use Rattle.jx_model.specs.Opcodes.{row_at}
+use Rattle.jx_base.specs.Opcodes.{row_at}
 use Rattle.jx_model.specs.Instructions.{instruction_at, index_operand}
-use Rattle.jx_model.specs.Lookup.{class_named, method_at, selector_at, selector_of_method, selected_method, constant_at, is_abstract, is_built_in}
+use Rattle.jx_base.specs.Flags.{is_abstract}
+use Rattle.jx_model.specs.Lookup.{class_named, method_at, selector_at, selector_of_method, selected_method, constant_at, is_built_in}
 use Rattle.jx_model.specs.ParcelParts.{node_cells}
 use Rattle.jx_model.specs.Parcels.{unpacked_objects, value_of}
 use Rattle.jx_model.specs.State.{Store, Going, Returned, Threw, Bad, Thread, State, class_of_object, new_object, code_bytes, class_of_frame, frame_behind}

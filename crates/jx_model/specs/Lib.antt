@@ -1,6 +1,5 @@
 pub mod Words
 pub mod Histories
-pub mod Opcodes
 pub mod Instructions
 pub mod Arithmetic
 pub mod Types

@@ -18,7 +18,8 @@ use Rattle.jx_base.specs.declared.row.Invocation.TheVariants as invocation
 use Rattle.jx_model.specs.Words.{first_some, and_then, mapped, passes, contains_number, firsts}
 use Rattle.jx_model.specs.Types.{innermost_type, is_number_type}
 use Rattle.jx_model.specs.BuiltIn.{built_in_table, throwable_classes, string_class, zero_class, memory_class}
-use Rattle.jx_model.specs.Lookup.{class_at, class_named, method_at, is_static, is_abstract, is_interface, is_interface_flag, same_selector, class_name_of_type}
+use Rattle.jx_base.specs.Flags.{is_static, is_abstract, is_interface_flag}
+use Rattle.jx_model.specs.Lookup.{class_at, class_named, method_at, is_interface, same_selector, class_name_of_type}
 use Rattle.jx_model.specs.Plans.{IsPlanInRange}
 use Rattle.jx_model.specs.ClassFiles.{constant_in, this_name, super_name, interface_names, class_of_constant, member_of_constant, member_selector, Use, AsWord, AsLong, AsField, AsMethod, AsNew, AsClass, AsArray, Used, uses_of_member}
 use Rattle.jx_model.specs.Linking.{outline, found_field, found_method, in_class, linked_system}

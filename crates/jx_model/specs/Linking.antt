@@ -20,7 +20,8 @@ use Rattle.jx_base.specs.declared.program.System.{System}
 use Rattle.jx_model.specs.Words.{first_some, and_then, mapped, passes, or_zero, contains_number}
 use Rattle.jx_model.specs.BuiltIn.{built_in_count, built_in_table, array_class}
 use Rattle.jx_model.specs.Instructions.{instructions_of}
-use Rattle.jx_model.specs.Lookup.{class_at, class_named, is_built_in, is_static, supers_of, chain_of, same_selector, selector_at}
+use Rattle.jx_base.specs.Flags.{is_static}
+use Rattle.jx_model.specs.Lookup.{class_at, class_named, is_built_in, supers_of, chain_of, same_selector, selector_at}
 use Rattle.jx_model.specs.Plans.{first_texts}
 use Rattle.jx_model.specs.ClassFiles.{text_in, this_name, super_name, interface_names, class_name_in, selector_in, member_selector, uses_of, arrays_of}
 

@@ -9,27 +9,10 @@ use Rattle.jx_base.specs.declared.program.Method.{Method}
 use Rattle.jx_base.specs.declared.program.Selector.{Selector}
 use Rattle.jx_base.specs.declared.program.Resolved.{Resolved}
 use Rattle.jx_base.specs.declared.program.Template.{Template}
+use Rattle.jx_base.specs.Flags.{is_static, is_interface_flag}
 use Rattle.jx_model.specs.Words.{first_some, and_then, passes, contains_number, is_number}
 use Rattle.jx_model.specs.Types.{is_long_type, is_int_type, is_reference_type}
 use Rattle.jx_model.specs.BuiltIn.{string_class, portal_class, built_in_count}
-
--- ---- flags
-
--- whether a flag is set
-unfoldable pub has_flag : ℕ → ℕ → Bool
-has_flag flag flags = flags / flag % 2 == 1
-
--- of a field or a method that belongs to its class
-unfoldable pub is_static : ℕ → Bool
-is_static flags = has_flag 0x0008 flags
-
--- of a class that is an interface
-unfoldable pub is_interface_flag : ℕ → Bool
-is_interface_flag flags = has_flag 0x0200 flags
-
--- of a class or a method without all its code
-unfoldable pub is_abstract : ℕ → Bool
-is_abstract flags = has_flag 0x0400 flags
 
 -- ---- classes
 
@@ -211,5 +194,5 @@ lists_class s t place = passes (λ x. contains_number x.classes place) (template
 
 -- what a computed row opens
 unfoldable pub opened_lookup : Unit {0}
-unfolding has_flag is_static is_interface_flag is_abstract class_at class_named class_count is_built_in is_interface parent_list supers_within supers_of chain_within chain_of is_below class_name_of_type class_of_type type_of_name type_of_class cell_types fits_type object_fits shape_fits shape_fits_class class_fits method_at selector_at selector_of_method constant_at same_selector is_instance_method_of instance_method selected_method has_own_method has_method template_at lists_class
+unfolding class_at class_named class_count is_built_in is_interface parent_list supers_within supers_of chain_within chain_of is_below class_name_of_type class_of_type type_of_name type_of_class cell_types fits_type object_fits shape_fits shape_fits_class class_fits method_at selector_at selector_of_method constant_at same_selector is_instance_method_of instance_method selected_method has_own_method has_method template_at lists_class
 opened_lookup = tt

@@ -23,7 +23,7 @@ use Rattle.jx_base.specs.declared.row.Conversion.{Conversion}
 use Rattle.jx_base.specs.declared.row.Conversion.TheVariants as conversion
 use Rattle.jx_base.specs.declared.row.Comparison.{Comparison}
 use Rattle.jx_model.specs.Words.{and_then, mapped}
-use Rattle.jx_model.specs.Opcodes.{row_at}
+use Rattle.jx_base.specs.Opcodes.{row_at}
 use Rattle.jx_model.specs.Instructions.{operand, index_operand}
 use Rattle.jx_model.specs.Arithmetic.{operation_result, negation, quotient_or_none, int_shift_result, long_shift_result, low_bits, low_char, is_met, order_of}
 use Rattle.jx_model.specs.BuiltIn.{arithmetic_exception}

@@ -24,9 +24,10 @@ use Rattle.jx_base.specs.declared.row.Invocation.TheVariants as invocation
 use Rattle.jx_model.specs.Words.{and_then, mapped, passes, not_below_zero}
 use Rattle.jx_model.specs.Types.{signature_of, is_void, is_reference_type, element_type}
 use Rattle.jx_model.specs.BuiltIn.{string_class, throwable_class, null_pointer_exception, array_index_exception, negative_size_exception, class_cast_exception, array_store_exception, stack_overflow_error, copy_exception}
-use Rattle.jx_model.specs.Opcodes.{row_at}
+use Rattle.jx_base.specs.Opcodes.{row_at}
 use Rattle.jx_model.specs.Instructions.{index_operand}
-use Rattle.jx_model.specs.Lookup.{class_at, class_named, method_at, selector_of_method, selected_method, class_fits, is_abstract, is_built_in, shape_fits, shape_fits_class, type_of_class, constant_at}
+use Rattle.jx_base.specs.Flags.{is_abstract}
+use Rattle.jx_model.specs.Lookup.{class_at, class_named, method_at, selector_of_method, selected_method, class_fits, is_built_in, shape_fits, shape_fits_class, type_of_class, constant_at}
 use Rattle.jx_model.specs.Parcels.{packed}
 use Rattle.jx_model.specs.Numeric.{Stack, as_kind, is_null}
 use Rattle.jx_model.specs.State.{Store, Core, class_of_object, shape_of, class_of_shape, default_of, kept_value, new_object, new_array, default_cells, cells_of, with_cell, static_types, class_of_frame, with_values, frame_behind, with_running, is_overfull, frame_of, is_overflow}

@@ -1,9 +1,10 @@
 -- One name that opens every definition, for rows that are computed.
 use Rattle.std.specs.Fmt.{digits}
 use Rattle.std.specs.Int.{int_wrap}
+use Rattle.jx_base.specs.Flags.{opened_flags}
 use Rattle.jx_model.specs.Words.{opened_words}
 use Rattle.jx_model.specs.Histories.{opened_histories}
-use Rattle.jx_model.specs.Opcodes.{opened_opcodes}
+use Rattle.jx_base.specs.Opcodes.{opened_opcodes}
 use Rattle.jx_model.specs.Instructions.{opened_instructions}
 use Rattle.jx_model.specs.Arithmetic.{opened_arithmetic}
 use Rattle.jx_model.specs.Types.{opened_types}
@@ -45,5 +46,5 @@ use Rattle.jx_model.specs.Summary.{opened_summary}
 
 -- what a computed row opens
 unfoldable pub opened_model : Unit {0}
-unfolding digits int_wrap opened_words opened_histories opened_opcodes opened_instructions opened_arithmetic opened_types opened_built_in opened_lookup opened_parcel_parts opened_parcels opened_numeric opened_state opened_built_in_methods opened_object_rows opened_machine_threads opened_start opened_running opened_entries opened_machine opened_conditions opened_plans opened_class_files opened_linking opened_link_faults opened_limits opened_domains opened_threads opened_portals opened_calls opened_memory_objects opened_holding opened_granules opened_bytes opened_replies opened_well_made opened_permits opened_why_not opened_single_worker opened_audit opened_audit_text opened_summary
+unfolding digits int_wrap opened_words opened_flags opened_histories opened_opcodes opened_instructions opened_arithmetic opened_types opened_built_in opened_lookup opened_parcel_parts opened_parcels opened_numeric opened_state opened_built_in_methods opened_object_rows opened_machine_threads opened_start opened_running opened_entries opened_machine opened_conditions opened_plans opened_class_files opened_linking opened_link_faults opened_limits opened_domains opened_threads opened_portals opened_calls opened_memory_objects opened_holding opened_granules opened_bytes opened_replies opened_well_made opened_permits opened_why_not opened_single_worker opened_audit opened_audit_text opened_summary
 opened_model = tt

@@ -10,7 +10,8 @@ use Rattle.jx_base.specs.declared.value.Value.{Value}
 use Rattle.jx_base.specs.declared.value.Value.TheVariants as value
 use Rattle.jx_model.specs.Words.{passes, or_zero, firsts}
 use Rattle.jx_model.specs.BuiltIn.{built_in_count, out_of_memory_error}
-use Rattle.jx_model.specs.Lookup.{is_static, is_built_in, class_named, chain_of, method_at, selector_of_method}
+use Rattle.jx_base.specs.Flags.{is_static}
+use Rattle.jx_model.specs.Lookup.{is_built_in, class_named, chain_of, method_at, selector_of_method}
 use Rattle.jx_model.specs.Parcels.{HeapObject}
 use Rattle.jx_model.specs.State.{Store, State, default_of, static_types}
 use Rattle.jx_model.specs.MachineThreads.{idle_thread, is_initializer_selector, after_finish}

@@ -177,8 +177,13 @@ IsWellMadeTest s past a = Decides (is_well_made s past a) (IsWellMade s past a)
 unfoldable pub is_built : Act → Bool
 is_built (act.Create t) = true
 is_built (act.Print text) = true
+is_built (act.Go t) = true
+is_built (act.Exit code) = true
+is_built act.Yield = true
 is_built (act.EndThread c) = true
+is_built (act.End r) = true
 is_built act.Quiet = true
+is_built act.Halt = true
 is_built _ = false
 
 -- the code of the act is there

@@ -1,3 +1,6 @@
 pub mod FirstSystem
+pub mod ReadClasses
+pub mod ReadMethods
+pub mod Accepted
 pub mod Prints
 pub mod Linking

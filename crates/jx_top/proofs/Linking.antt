@@ -7,7 +7,7 @@ use Rattle.jx_base.specs.declared.program.Plan.{Plan}
 use Rattle.jx_base.specs.declared.program.Selector.{Selector}
 use Rattle.jx_base.specs.declared.program.System.{System}
 use Rattle.jx_base.specs.declared.class_file.ClassFile.{ClassFile}
-use Rattle.class_reader.specs.FirstClass.{first_class}
+use Rattle.first_class.specs.FirstClass.{first_class}
 use Rattle.jx_model.specs.BuiltIn.{built_in_table}
 use Rattle.jx_model.specs.Linking as linking
 use Rattle.jx_model.specs.Linking.{built_in_sources_from, file_sources_from, sources, linked_selectors, linked_method, outline, linked_system}

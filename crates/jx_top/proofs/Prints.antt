@@ -1,13 +1,16 @@
 -- From what is put of a class to what is printed of its file.
-use Rattle.std.specs.Prelude.{◌≡◌, refl, ℕ, List, [], ◌∷◌, Option, Some, None}
-use Rattle.std.proofs.Common.{subst}
+use Rattle.std.specs.Prelude.{◌≡◌, ℕ, List, [], ◌∷◌, Option, Some, None}
+use Rattle.std.proofs.Common.{subst, sym}
 use Rattle.jx_base.specs.Files.{Files}
-use Rattle.class_reader.specs.FirstClass.{first_class}
+use Rattle.first_class.specs.FirstClass.{first_class}
 use Rattle.jx_model.specs.LinkFaults.{IsLinked}
-use Rattle.jx_top.specs.FirstRun.{own_name, one_class_plan}
+use Rattle.jx_top.specs.Classes.{IsReadClass}
+use Rattle.system_text.specs.Description.{one_class_plan}
+use Rattle.jx_top.specs.FirstRun.{own_name}
 use Rattle.jx_top.specs.Headline.{IsAuditOf, IsAuditWhereTold, Prints}
 use Rattle.jx_top.specs.Outcome.{HasClass, HasClassWhereTold}
 use Rattle.jx_top.specs.Running.{IsAuditOfClass, PrintsClass}
+use Rattle.jx_top.proofs.Accepted.{first_read}
 use Rattle.jx_top.specs.declared.status.Status.{Status}
 use Rattle.jx_top.specs.declared.status.Status.TheVariants as status
 
@@ -25,7 +28,7 @@ audit_of_file files file name text h named a =
         bytes = h.bytes;
         found = h.found;
         class = first_class;
-        read = record { bytes_are = h.known.0; file_is = refl };
+        read = subst (λ (b : List ℕ). IsReadClass b first_class) (sym h.known.0) first_read;
         linked = subst (λ (n : List ℕ). IsLinked (one_class_plan n) (first_class ∷ []) a.system)
             (same_name name h.name named h.known.1) a.linked;
       };
@@ -49,4 +52,5 @@ prints told file name before now status.Usage h named p = absurd p
 prints told file name before now status.ShelfFault h named p = absurd p
 prints told file name before now (status.Missing n) h named p = absurd p
 prints told file name before now (status.TooLong n) h named p = absurd p
+prints told file name before now (status.BadClass n d) h named p = absurd p
 prints told file name before now (status.NotYet n) h named p = absurd p

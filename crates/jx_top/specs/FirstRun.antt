@@ -1,5 +1,5 @@
 -- A class whose main prints one text.
-use Rattle.std.specs.Prelude.{ℕ, true, List, [], ◌∷◌, Option, Some, None, slice_get, option_and_then, codes}
+use Rattle.std.specs.Prelude.{ℕ, List, [], ◌∷◌, Option, Some, None, slice_get, option_and_then}
 use Rattle.jx_base.specs.declared.act.Entry.{Entry}
 use Rattle.jx_base.specs.declared.act.Act.TheVariants as act
 use Rattle.jx_base.specs.declared.act.Reply.TheVariants as reply
@@ -7,7 +7,6 @@ use Rattle.jx_base.specs.declared.class_file.ClassFile.{ClassFile}
 use Rattle.jx_base.specs.declared.class_file.Constant.{Constant}
 use Rattle.jx_base.specs.declared.class_file.Constant.TheVariants as constant
 use Rattle.jx_base.specs.declared.class_file.Member.{Member}
-use Rattle.jx_base.specs.declared.program.Plan.{Plan}
 
 abbrev pub text_in : Constant → Option (List ℕ)
 text_in (constant.Utf8 text) = Some text
@@ -32,15 +31,6 @@ string_in constants _ = None
 -- the text of the String constant at the index
 abbrev pub string_at : List Constant → ℕ → Option (List ℕ)
 string_at constants index = option_and_then (string_in constants) (slice_get constants index)
-
--- the plan of a system of this one class
-unfoldable pub one_class_plan : List ℕ → Plan
-one_class_plan name = record {
-  granules = 16384;
-  journal = 1048576;
-  templates = record { name = codes "main"; main = 0; classes = 0 ∷ []; heap = 1024; fuel = 1000000; boot = true } ∷ [];
-  classes = name ∷ [];
-}
 
 abbrev pub code_text : List Constant → List ℕ → Option (List ℕ)
 code_text constants (opcode ∷ index ∷ rest) = string_at constants index

@@ -5,11 +5,11 @@ use Rattle.jx_base.specs.Puts.{TookPrefix, with_bytes}
 use Rattle.jx_base.specs.declared.act.History.{History}
 use Rattle.jx_base.specs.declared.class_file.ClassFile.{ClassFile}
 use Rattle.jx_base.specs.declared.program.System.{System}
-use Rattle.class_reader.specs.FirstClass.{IsReadAs}
 use Rattle.jx_model.specs.AuditText.{audit_text}
 use Rattle.jx_model.specs.LinkFaults.{IsLinked}
 use Rattle.jx_model.specs.SingleWorker.{IsSingleWorkerHistory}
-use Rattle.jx_top.specs.FirstRun.{one_class_plan}
+use Rattle.jx_top.specs.Classes.{IsReadClass}
+use Rattle.system_text.specs.Description.{one_class_plan}
 use Rattle.jx_top.specs.Words.{IsFileOf}
 use Rattle.jx_top.specs.declared.status.Status.{Status}
 use Rattle.jx_top.specs.declared.status.Status.TheVariants as status
@@ -21,7 +21,7 @@ pub record IsSystemOf (files : Files) (file : List ℕ) (system : System) : Type
   pub bytes : List ℕ
   pub found : files file ≡ Some bytes
   pub class : ClassFile
-  pub read : IsReadAs bytes class
+  pub read : IsReadClass bytes class
   pub linked : IsLinked (one_class_plan name) (class ∷ []) system
 
 -- the text is the audit of the complete legal history that one worker makes of that system

@@ -9,7 +9,7 @@ use Rattle.jx_model.specs.AuditText.{audit_text}
 use Rattle.jx_model.specs.Legal.{IsAdmitted}
 use Rattle.jx_model.specs.LinkFaults.{IsLinked}
 use Rattle.jx_model.specs.SingleWorker.{IsSingleWorkerHistory}
-use Rattle.jx_top.specs.FirstRun.{one_class_plan}
+use Rattle.system_text.specs.Description.{one_class_plan}
 use Rattle.jx_top.specs.declared.status.Status.{Status}
 use Rattle.jx_top.specs.declared.status.Status.TheVariants as status
 

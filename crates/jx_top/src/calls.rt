@@ -2,7 +2,8 @@
 ghost use Rattle.std.specs.Prelude.{◌≡◌, ◌≢◌, ◌↔◌, ℕ, List};
 ghost use Rattle.jx_base.specs.Faults.{HasRisen};
 ghost use Rattle.jx_top.specs.Headline.{Prints};
-ghost use Rattle.jx_top.specs.Outcome.{HasCause};
+ghost use Rattle.jx_top.specs.Outcome.{HasCause, IsAccepted, IsDoneOrOutOfMemory, IsRefused, IsRefusedOrOutOfMemory};
+ghost use Rattle.jx_top.specs.declared.defect.Defect.{Defect};
 ghost use Rattle.jx_top.specs.Words.{IsSerial, AsksForRun, AsksForNothing, texts, file_of};
 
 use crate::request::Request;
@@ -46,6 +47,15 @@ pub fn jx_main<R: Threads + Wait + Sync, L: Shelf, K: Sink, G: Gate + Sync>(
     // The headline: what is put is the audit of a complete legal history of the system that the files give.
     ensures prints { (file : List ℕ) → AsksForRun (texts words.now) file → Prints (L.told shelf.old) file (K.told sink.old) (K.told sink.new) result }
     ensures nothing { result ≡ Status.Usage → K.told sink.new ≡ K.told sink.old }
+
+    // Where nothing of the outside fails and the file's class is run by now, the work is done, or memory was refused.
+    ensures completes { (file : List ℕ) → AsksForRun (texts words.now) file → IsAccepted (L.told shelf.old) file
+        → (HasRisen (L.faults shelf.old) (L.faults shelf.new) → ⊥) → (HasRisen (K.faults sink.old) (K.faults sink.new) → ⊥)
+        → IsDoneOrOutOfMemory result }
+
+    // Where the file holds no class that is read, this is told, or memory was refused.
+    ensures refuses { (file : List ℕ) (d : Defect) → AsksForRun (texts words.now) file → IsRefused (L.told shelf.old) file d
+        → (HasRisen (L.faults shelf.old) (L.faults shelf.new) → ⊥) → IsRefusedOrOutOfMemory d result }
 
     // The causes of the other statuses.
     ensures usage { (result ≡ Status.Usage) ↔ AsksForNothing (texts words.now) }

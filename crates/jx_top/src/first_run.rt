@@ -1,10 +1,9 @@
 //! The run of a class whose `main` prints one text.
 ghost use Rattle.std.specs.Prelude.{◌≡◌, ◌≢◌, [], ◌∷◌, ℕ, List, Some, None, IfOk, MatchOption, codes, slice_get, option_and_then};
-ghost use Rattle.jx_top.specs.FirstRun.{text_at, own_name, string_at, printed_text, one_class_plan, one_print};
+ghost use Rattle.jx_top.specs.FirstRun.{text_at, own_name, string_at, printed_text, one_print};
 
 use jx_base::{
-    Act, ClassFile, Constant, DomainId, Entry, History, Listed, Name, OutOfMemory, Plan, Reply,
-    Template, Text, ThreadId, text_of,
+    Act, ClassFile, Constant, DomainId, Entry, History, Listed, OutOfMemory, Reply, Text, ThreadId,
 };
 use std::alloc::Global;
 
@@ -51,29 +50,6 @@ pub fn printed_text(file: &ClassFile) -> Option<&[u16]>
         },
         _ => None,
     }
-}
-
-/// The plan of a system of the one class.
-#[tactic(auto, unfolding(crate::specs::FirstRun::one_class_plan))]
-pub fn one_class_plan(alloc: Global, name: &str) -> Result<Plan, OutOfMemory>
-    ensures { IfOk result (λ plan. plan ≡ one_class_plan name.now) }
-{
-    let template = Template {
-        name: text_of(alloc, "main")?,
-        main: 0,
-        classes: Listed::from_vec(vec![in alloc; 0]?),
-        heap: 1_024,
-        fuel: 1_000_000,
-        boot: true,
-    };
-    Ok(Plan {
-        granules: 16_384,
-        journal: 1_048_576,
-        templates: Listed::from_vec(vec![in alloc; template]?),
-        classes: Listed::from_vec(vec![in alloc;
-            Name::from_string(String::from_str(alloc, name)?),
-        ]?),
-    })
 }
 
 fn entry(domain: u32, act: Act, reply: Reply) -> Entry

@@ -2,6 +2,9 @@
 #![tactic(auto)]
 
 mod calls;
+mod class_error;
+mod classes;
+mod defect;
 mod first_run;
 mod laws;
 mod lines;
@@ -12,6 +15,7 @@ mod status;
 mod words;
 
 pub use calls::{jx_main, jx_serial};
+pub use defect::{Defect, DefectKind};
 pub use laws::first_system_prints;
 pub use lines::{status_line, status_number};
 pub use request::Request;

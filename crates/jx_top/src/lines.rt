@@ -1,11 +1,12 @@
 //! What is said of a status.
 ghost use Rattle.std.specs.Prelude.{◌≡◌};
 ghost use Rattle.jx_base.specs.Puts.{Puts};
-ghost use Rattle.jx_top.specs.Lines.{status_text, status_number};
+ghost use Rattle.jx_top.specs.Lines.{status_text, status_number, class_kind_number, code_kind_number, kind_number};
 
+use crate::defect::DefectKind;
 use crate::status::Status;
 use audit_text::{Piece, put_line};
-use jx_base::{Failed, Sink};
+use jx_base::{ClassKind, CodeKind, Failed, Sink};
 
 /// The number that the program ends with.
 pub fn status_number(status: &Status) -> u8
@@ -16,10 +17,50 @@ pub fn status_number(status: &Status) -> u8
         Status::Usage => 2,
         Status::ShelfFault => 3,
         Status::Missing(_) => 4,
+        Status::BadClass(_, _) => 6,
         Status::SinkFault => 8,
         Status::TooLong(_) => 17,
         Status::OutOfMemory => 70,
         Status::NotYet(_) => 99,
+    }
+}
+
+fn class_kind_number(kind: ClassKind) -> u8
+    ensures { result ≡ class_kind_number kind }
+{
+    match kind {
+        ClassKind::Truncated => 1,
+        ClassKind::Magic => 2,
+        ClassKind::Version => 3,
+        ClassKind::Tag => 4,
+        ClassKind::Index => 5,
+        ClassKind::Utf8 => 6,
+        ClassKind::Descriptor => 7,
+        ClassKind::Code => 8,
+        ClassKind::Unsupported => 9,
+        ClassKind::Trailing => 10,
+    }
+}
+
+fn code_kind_number(kind: CodeKind) -> u8
+    ensures { result ≡ code_kind_number kind }
+{
+    match kind {
+        CodeKind::Opcode => 11,
+        CodeKind::Truncated => 12,
+        CodeKind::Target => 13,
+        CodeKind::LeftOut => 14,
+        CodeKind::BadWide => 15,
+        CodeKind::BadRange => 16,
+    }
+}
+
+fn kind_number(kind: DefectKind) -> u8
+    ensures { result ≡ kind_number kind }
+{
+    match kind {
+        DefectKind::File(kind) => class_kind_number(kind),
+        DefectKind::Code(kind) => code_kind_number(kind),
     }
 }
 
@@ -38,6 +79,17 @@ pub fn status_line<K: Sink>(status: &Status, sink: &mut K) -> Result<(), Failed>
         ),
         Status::TooLong(name) => put_line(
             &[Piece::Plain("jx: too long"), Piece::Plain(name.as_str())],
+            sink,
+        ),
+        Status::BadClass(name, defect) => put_line(
+            &[
+                Piece::Plain("jx: bad class"),
+                Piece::Plain(name.as_str()),
+                Piece::Plain("at"),
+                Piece::Number(defect.at),
+                Piece::Plain("kind"),
+                Piece::Number(u64::from(kind_number(defect.kind))),
+            ],
             sink,
         ),
         Status::SinkFault => put_line(&[Piece::Plain("jx: sink fault")], sink),

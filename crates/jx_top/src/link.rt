@@ -1,6 +1,6 @@
 //! Links the class that is read by now.
 ghost use Rattle.std.specs.Prelude.{◌≡◌, [], ◌∷◌, IfOk};
-ghost use Rattle.class_reader.specs.FirstClass.{first_class};
+ghost use Rattle.first_class.specs.FirstClass.{first_class};
 ghost use Rattle.jx_model.specs.Linking.{linked_system};
 ghost use Rattle.linker_classes.specs.FirstPlan.{first_plan};
 ghost use Rattle.jx_top.specs.FirstSystem.{first_system};

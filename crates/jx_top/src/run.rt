@@ -1,23 +1,28 @@
 //! The run of a class.
-ghost use Rattle.std.specs.Prelude.{◌≡◌, ◌≢◌, ◌↔◌, IsTrue, ◌≤◌, ℕ, List, Result, IsErrOf, IfOk, MatchResult, OnErr, Some, string_bytes, is_some};
+ghost use Rattle.std.specs.Prelude.{◌≡◌, ◌≢◌, ◌↔◌, IsTrue, ◌≤◌, ◌^◌, length, ℕ, List, Result, IsErrOf, IfOk, MatchResult, OnErr, Some, string_bytes, is_some};
 ghost use Rattle.jx_base.specs.Faults.{HasRisen};
-ghost use Rattle.class_reader.specs.FirstClass.{first_class};
+ghost use Rattle.jx_base.specs.Files.{longest_file};
+ghost use Rattle.first_class.specs.FirstClass.{first_bytes, first_class};
+ghost use Rattle.jx_top.specs.Classes.{IsReadClass};
 ghost use Rattle.jx_top.specs.FirstRun.{own_name};
 ghost use Rattle.jx_top.specs.FirstSystem.{first_history};
 ghost use Rattle.jx_top.specs.Words.{IsFileOf};
 ghost use Rattle.jx_top.specs.Headline.{Prints};
-ghost use Rattle.jx_top.specs.Outcome.{FindsBytes, HasCause, HoldsClass, FindsClass};
+ghost use Rattle.jx_top.specs.Outcome.{FindsBytes, HasCause, HoldsClass, FindsClass, IsKnownClass};
 ghost use Rattle.jx_top.specs.Running.{IsRunOf, PrintsClass};
 
-use crate::first_run::{one_class_plan, one_print, own_name, printed_text};
+use crate::class_error::ClassError;
+use crate::classes::read_whole;
+use crate::first_run::{one_print, own_name, printed_text};
 use crate::link::link;
 use crate::status::Status;
 use audit_text::render;
-use class_reader::{ReadFault, read_class};
+use first_class::FIRST_CLASS;
 use jx_base::{
     ClassFile, Failed, Fetch, History, Listed, OutOfMemory, Shelf, Sink, System, text_of,
 };
 use std::alloc::Global;
+use system_text::one_class;
 
 fn copy_of(alloc: Global, text: &str) -> Result<String, Status>
     ensures { MatchResult result (λ copy. string_bytes copy ≡ text.now) (λ outcome. outcome ≡ Status.OutOfMemory) }
@@ -28,6 +33,7 @@ fn copy_of(alloc: Global, text: &str) -> Result<String, Status>
 /// The bytes of the file.
 fn fetch_bytes<L: Shelf>(alloc: Global, file: &str, shelf: &mut L) -> Result<Vec<u8>, Status>
     ensures bytes { FindsBytes (L.told shelf.old) file.now result }
+    ensures short { IfOk result (λ bytes. length bytes.items ≤ longest_file) }
     ensures same { L.told shelf.new ≡ L.told shelf.old }
     ensures later { L.faults shelf.old ≤ L.faults shelf.new }
     ensures cause { IsErrOf result Status.ShelfFault → HasRisen (L.faults shelf.old) (L.faults shelf.new) }
@@ -54,20 +60,41 @@ fn is_named(alloc: Global, file: &ClassFile, name: &str) -> Result<bool, Status>
     }
 }
 
+/// Whether the bytes are those of the class that is run by now.
+#[tactic(auto, unfolding(first_class::specs::FirstClass::first_bytes))]
+fn is_first(bytes: &[u8]) -> bool
+    ensures { IsTrue result ↔ (bytes.now ≡ first_bytes) }
+{
+    bytes == FIRST_CLASS.as_slice()
+}
+
+/// Whether the class is run by now.
+fn is_known(alloc: Global, name: &str, bytes: &[u8], file: &ClassFile) -> Result<bool, Status>
+    requires { IsReadClass bytes.now file.now }
+    ensures { MatchResult result (λ known. IsTrue known ↔ IsKnownClass bytes.now name.now) (λ outcome. outcome ≡ Status.OutOfMemory) }
+{
+    if is_first(bytes) {
+        is_named(alloc, file, name)
+    } else {
+        Ok(false)
+    }
+}
+
 /// The class of the bytes, where it is known and has the name.
 fn known_class(alloc: Global, name: &str, bytes: &[u8]) -> Result<ClassFile, Status>
+    requires { length bytes.now ≤ 2 ^ 31 }
     ensures { HoldsClass name.now bytes.now result }
 {
-    match read_class(alloc, bytes) {
+    match read_whole(alloc, bytes) {
         Ok(file) => {
-            if is_named(alloc, &file, name)? {
+            if is_known(alloc, name, bytes, &file)? {
                 Ok(file)
             } else {
                 Err(Status::NotYet(copy_of(alloc, name)?))
             }
         }
-        Err(ReadFault::NotYet) => Err(Status::NotYet(copy_of(alloc, name)?)),
-        Err(ReadFault::OutOfMemory) => Err(Status::OutOfMemory),
+        Err(ClassError::Bad(defect)) => Err(Status::BadClass(copy_of(alloc, name)?, defect)),
+        Err(ClassError::OutOfMemory) => Err(Status::OutOfMemory),
     }
 }
 
@@ -88,7 +115,7 @@ fn run(alloc: Global, name: &str, file: &ClassFile) -> Result<(System, History),
     requires name { own_name first_class ≡ Some name.now }
     ensures { IfOk result (λ run. IsRunOf name.now first_class run.0 run.1) }
 {
-    let system = link(alloc, one_class_plan(alloc, name)?, file)?;
+    let system = link(alloc, one_class(alloc, name)?, file)?;
     let history = history_of(alloc, file)?;
     Ok((system, history))
 }

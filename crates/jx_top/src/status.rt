@@ -1,6 +1,9 @@
 //! How a command ends.
 
-/// How a command ended. `Missing` and `TooLong` carry the name of a file, `NotYet` that of a class.
+use crate::defect::Defect;
+
+/// How a command ended. `Missing` and `TooLong` carry the name of a file, `BadClass` and `NotYet` that of
+/// a class.
 #[derive(Drop)]
 pub enum Status {
     Done,
@@ -8,6 +11,7 @@ pub enum Status {
     ShelfFault,
     Missing(String),
     TooLong(String),
+    BadClass(String, Defect),
     SinkFault,
     NotYet(String),
     OutOfMemory,

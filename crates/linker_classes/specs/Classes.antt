@@ -19,7 +19,7 @@ use Rattle.jx_model.specs.BuiltIn.{array_class}
 use Rattle.jx_model.specs.ClassFiles.{text_in, class_name_in, selector_in, this_name, super_name}
 use Rattle.jx_model.specs.Instructions.{index_operand}
 use Rattle.jx_model.specs.Linking.{declared_of, in_class, own_fields, own_method}
-use Rattle.jx_model.specs.Lookup.{is_static}
+use Rattle.jx_base.specs.Flags.{is_static}
 use Rattle.jx_model.specs.Words.{mapped}
 use Rattle.linker_classes.specs.FirstPlan.{first_plan}
 use Rattle.linker_classes.specs.declared.outline.Outline.{Outline}

@@ -1,6 +1,6 @@
 //! The classes of a linked program.
 ghost use Rattle.std.specs.Prelude.{◌≡◌, ◌<◌, ◌^◌, [], ◌∷◌, length, map, IfOk};
-ghost use Rattle.class_reader.specs.FirstClass.{first_class};
+ghost use Rattle.first_class.specs.FirstClass.{first_class};
 ghost use Rattle.jx_model.specs.BuiltIn.{built_in_table};
 ghost use Rattle.std.specs.List.{filter_map};
 ghost use Rattle.jx_model.specs.ClassFiles.{class_name_in};

@@ -1,7 +1,7 @@
 //! The fields of a class.
 ghost use Rattle.std.specs.Prelude.{◌≡◌, ◌++◌, false, IfOk};
 ghost use Rattle.jx_model.specs.Linking.{field_of, own_fields};
-ghost use Rattle.jx_model.specs.Lookup.{is_static};
+ghost use Rattle.jx_base.specs.Flags.{is_static};
 ghost use Rattle.linker_classes.specs.Classes.{inherited_fields, is_of_kind};
 
 use crate::names::copy_of;

@@ -1,6 +1,6 @@
 -- The sources of the built-in classes with those of files.
 use Rattle.std.proofs.Common.{◌≡◌, refl, List, [], ◌∷◌, ◌++◌, length}
-use Rattle.class_reader.specs.FirstClass.{first_class, first_main, first_code}
+use Rattle.first_class.specs.FirstClass.{first_class, first_main, first_code}
 use Rattle.jx_base.specs.declared.class_file.ClassFile.{ClassFile}
 use Rattle.jx_model.specs.BuiltIn.{built_in_table}
 use Rattle.jx_model.specs.Linking.{built_in_sources_from, file_sources_from, linked_selectors, sources}

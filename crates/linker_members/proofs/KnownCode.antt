@@ -3,7 +3,7 @@ use Rattle.std.proofs.Common.{◌≡◌, refl, sym, ap, subst, ◌∙◌, ◌+�
 use Rattle.std.specs.List.{list_all}
 use Rattle.std.proofs.lemmas.List.Folds.{list_all-map}
 use Rattle.std.proofs.lemmas.List.Sums.{AllPass-from_list_all}
-use Rattle.class_reader.specs.FirstClass.{first_code}
+use Rattle.first_class.specs.FirstClass.{first_code}
 use Rattle.jx_base.specs.declared.class_file.Instr.{Instr}
 use Rattle.jx_model.specs.Instructions.{instructions_of}
 use Rattle.jx_model.specs.Opened.{opened_model}

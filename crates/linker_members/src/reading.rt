@@ -1,6 +1,6 @@
 //! The instructions of a method's code.
 ghost use Rattle.std.specs.Prelude.{◌≡◌, [], ◌∷◌, pos, IfOk};
-ghost use Rattle.class_reader.specs.FirstClass.{first_code};
+ghost use Rattle.first_class.specs.FirstClass.{first_code};
 ghost use Rattle.jx_model.specs.Instructions.{instructions_of};
 ghost use Rattle.linker_members.specs.Members.{plain_instr};
 
@@ -33,7 +33,7 @@ fn with_index(alloc: Global, pc: u32, opcode: u8, index: u16) -> Result<Instr, O
 }
 
 /// The instructions of the code: a load of a constant, a call of a static method and a return.
-#[tactic(auto, unfolding(class_reader::specs::FirstClass::first_code))]
+#[tactic(auto, unfolding(first_class::specs::FirstClass::first_code))]
 pub fn instructions(alloc: Global, code: &[u8]) -> Result<Listed<Instr>, OutOfMemory>
     requires { code.now ≡ first_code.code }
     ensures { IfOk result (λ instrs. instrs ≡ instructions_of code.now) }

@@ -1,6 +1,6 @@
 //! Runs of the first class.
 
-use class_reader::FIRST_CLASS;
+use first_class::FIRST_CLASS;
 use jx_base::{MemoryShelf, MemorySink, OpenGate, OutOfMemory};
 use jx_top::{Request, Status, jx_main, jx_serial, status_line, status_number};
 use std::alloc::Global;
@@ -9,7 +9,7 @@ use std::test::Fail;
 const FIRST_AUDIT: &str =
     "jx audit 1\n1 0 0 create \"main\" -> domain 1 at 0\n2 1 0 print \"hi\" -> done\n3 1 0 end-thread -> done\n4 0 0 quiet -> done\nconsole\n1 \"hi\"\ndomains\n1 \"main\" by 0 live\ncalls\nmemory 128 of 16384\nwords 26 of 1048576\nend quiet\n";
 
-fn strings(alloc: Global, words: &[&str]) -> Result<Vec<String>, OutOfMemory> {
+pub fn strings(alloc: Global, words: &[&str]) -> Result<Vec<String>, OutOfMemory> {
     let mut strings = Vec::new(alloc);
     for word in words {
         strings.push(String::from_str(alloc, word)?)?;
@@ -26,7 +26,7 @@ fn shelf(alloc: Global, name: &str, failing: &[u32]) -> Result<MemoryShelf, OutO
     Ok(MemoryShelf::new(vec![in alloc; file]?, failing))
 }
 
-fn line(alloc: Global, status: &Status) -> Result<Vec<u8>, OutOfMemory> {
+pub fn line(alloc: Global, status: &Status) -> Result<Vec<u8>, OutOfMemory> {
     let mut sink = MemorySink::open(alloc, 1000, Vec::new(alloc))?;
     let _ = status_line(status, &mut sink);
     Vec::from_slice(alloc, sink.bytes())

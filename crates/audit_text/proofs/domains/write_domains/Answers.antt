@@ -1,40 +1,48 @@
-use Rattle.std.proofs.Common.{sym, ◌∙◌, arith}
+use Rattle.std.proofs.Common.{◌+◌, sym, ◌∙◌, arith, reverse}
 use Rattle.std.proofs.lemmas.List.{drop_all}
 use Rattle.std.proofs.lemmas.Result.{err_from_is_err_and}
-use Rattle.audit_text.proofs.Writing.{completes_more, completes_same, completes_stop, completes_end}
-use Rattle.audit_text.proofs.BirthLines.{born_lines-more, born_lines-same, born_lines-end, domain_lines-born}
+use Rattle.audit_text.proofs.Writing.{writes_as, completes_more, completes_same, completes_stop, completes_end}
+use Rattle.audit_text.proofs.BirthLines.{born-more, born-same, born-end, line_after, line_after-is, domain_lines-born}
 use Rattle.audit_text.proofs.domains.write_domains.Goals as goal
 use Rattle.audit_text.proofs.domains.write_domains.Goals.{in-Some+in_ok-write_domain, in_default}
 
 pub returns-in_err-write_domain : goal.returns-in_err-write_domain
 returns-in_err-write_domain g c =
     let p = err_from_is_err_and c.from_residual.result c.from_residual.ensures.1 in
+    let past = reverse c.args.entries.now in
+    let after = line_after c.args.system.now past in
+    let line = line_after-is c.args.system.now past (c.loop-entry.domains + 1) c.in-Some.template c.entry-item.result.domain.0 c.end_reason-why.result c.end_reason-why.ensures in
     rw (p.1, ← domain_lines-born c.args.system.now c.args.entries.now c.requires)
     (completes_stop _ _ _ _
-    (born_lines-more c.args.system.now c.loop-entry.domains c.loop-entry.entry-index c.in-Some.template c.args.entries.now c.entry-item.result c.entry-item.is (omega arith) (sym c.made_template.ensures ∙ c.in-Some.is))
+    (born-more after c.loop-entry.domains c.loop-entry.entry-index c.in-Some.template c.args.entries.now c.entry-item.result c.entry-item.is (omega arith) (sym c.made_template.ensures ∙ c.in-Some.is))
     c.loop-entry.invariant.lines
-    c.in_err-write_domain.ensures)
+    (writes_as line c.in_err-write_domain.ensures))
 
 pub loop-entry-preserved : goal.loop-entry-preserved
-loop-entry-preserved g c = elim c.match-made_template.branch [
-  | in-Some+in_ok-write_domain w ↦ record {
-    few = omega arith;
-    lines = rw (w.domains-is, w.sink-is, w.page-is)
-        (completes_more _ _ _ _
-        (born_lines-more c.args.system.now c.loop-entry.domains c.loop-entry.entry-index w.in-Some.template c.args.entries.now c.entry-item.result c.entry-item.is (omega arith) (sym c.made_template.ensures ∙ w.in-Some.is))
-        c.loop-entry.invariant.lines
-        w.in_ok-write_domain.ensures);
-  }
-  | in_default w ↦ record {
-    few = omega arith;
-    lines = rw (w.domains-is, w.sink-is, w.page-is)
-        (completes_same _ _ _
-        (born_lines-same c.args.system.now c.loop-entry.domains c.loop-entry.entry-index c.args.entries.now c.entry-item.result c.entry-item.is (omega arith) (sym c.made_template.ensures ∙ w.in_default.is))
-        c.loop-entry.invariant.lines);
-  }
-]
+loop-entry-preserved g c =
+    let past = reverse c.args.entries.now in
+    let after = line_after c.args.system.now past in
+    elim c.match-made_template.branch [
+      | in-Some+in_ok-write_domain w ↦
+          let line = line_after-is c.args.system.now past (c.loop-entry.domains + 1) w.in-Some.template c.entry-item.result.domain.0 w.end_reason-why.result w.end_reason-why.ensures in
+          record {
+            few = omega arith;
+            lines = rw (w.domains-is, w.sink-is, w.page-is)
+                (completes_more _ _ _ _
+                (born-more after c.loop-entry.domains c.loop-entry.entry-index w.in-Some.template c.args.entries.now c.entry-item.result c.entry-item.is (omega arith) (sym c.made_template.ensures ∙ w.in-Some.is))
+                c.loop-entry.invariant.lines
+                (writes_as line w.in_ok-write_domain.ensures));
+          }
+      | in_default w ↦ record {
+        few = omega arith;
+        lines = rw (w.domains-is, w.sink-is, w.page-is)
+            (completes_same _ _ _
+            (born-same after c.loop-entry.domains c.loop-entry.entry-index c.args.entries.now c.entry-item.result c.entry-item.is (omega arith) (sym c.made_template.ensures ∙ w.in_default.is))
+            c.loop-entry.invariant.lines);
+      }
+    ]
 
 pub returns : goal.returns
 returns g c =
     rw (← domain_lines-born c.args.system.now c.args.entries.now c.requires)
-    (completes_end _ _ (born_lines-end c.args.system.now c.loop-entry.domains c.loop-entry.entry-index c.args.entries.now (drop_all c.loop-entry.entry-index c.args.entries.now (omega arith))) c.loop-entry.invariant.lines)
+    (completes_end _ _ (born-end (line_after c.args.system.now (reverse c.args.entries.now)) c.loop-entry.domains c.loop-entry.entry-index c.args.entries.now (drop_all c.loop-entry.entry-index c.args.entries.now (omega arith))) c.loop-entry.invariant.lines)

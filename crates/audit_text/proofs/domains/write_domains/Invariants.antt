@@ -1,6 +1,6 @@
-use Rattle.std.proofs.Common.{◌≤◌, drop}
+use Rattle.std.proofs.Common.{◌≤◌, drop, reverse}
 use Rattle.audit_text.specs.Writes.{output}
-use Rattle.audit_text.proofs.BirthLines.{born_lines}
+use Rattle.audit_text.proofs.BirthLines.{born, line_after}
 use Rattle.audit_text.proofs.Writing.{Completes}
 use Rattle.audit_text.proofs.domains.write_domains.Given as goal
 
@@ -8,8 +8,8 @@ abbrev pub invariant-loop-entry : goal.invariant-loop-entry
 invariant-loop-entry g l = record {
   few : l.domains ≤ l.entry-index;
   lines : Completes
-      (born_lines l.system l.domains (drop l.entry-index l.entries))
-      (born_lines l.system 0 l.entries)
+      (born (line_after l.system (reverse l.entries)) l.domains (drop l.entry-index l.entries))
+      (born (line_after l.system (reverse l.entries)) 0 l.entries)
       (output (g.K.Sink.told l.initial.sink) l.initial.page (g.K.Sink.faults l.initial.sink))
       (output (g.K.Sink.told l.sink) l.page (g.K.Sink.faults l.sink));
 }

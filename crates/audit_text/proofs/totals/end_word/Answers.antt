@@ -11,8 +11,13 @@ unfolding end_word_of
 returns-in-Quiet c =
     rw (end_word-last c.args.entries.now c.in-Some.field-0-1.now c.in-Some.last.now c.in-Some.ensures.cases.0, c.in-Quiet.is) refl
 
+pub returns-in-Halt : goal.returns-in-Halt
+unfolding end_word_of
+returns-in-Halt c =
+    rw (end_word-last c.args.entries.now c.in-Some.field-0-1.now c.in-Some.last.now c.in-Some.ensures.cases.0, c.in-Halt.is) refl
+
 pub returns-in_default : goal.returns-in_default
 returns-in_default c =
     let split = c.in-Some.ensures.cases.0 in
     let parts = front_built c.args.entries.now c.in-Some.field-0-1.now c.in-Some.last.now split c.requires in
-    sym (end_word-last c.args.entries.now c.in-Some.field-0-1.now c.in-Some.last.now split ∙ end_word-open c.in-Some.last.now.act parts.1.act c.in_default.not-Quiet)
+    sym (end_word-last c.args.entries.now c.in-Some.field-0-1.now c.in-Some.last.now split ∙ end_word-open c.in-Some.last.now.act parts.1.act c.in_default.not-Quiet c.in_default.not-Halt)

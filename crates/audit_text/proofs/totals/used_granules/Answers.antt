@@ -1,14 +1,15 @@
-use Rattle.std.proofs.Common.{sym, ◌∙◌, reverse, arith}
+use Rattle.std.proofs.Common.{◌+◌, drop, sym, ◌∙◌, ap, reverse, arith}
 use Rattle.std.proofs.lemmas.List.{drop_all}
-use Rattle.audit_text.proofs.Sums.{entry_sum-more, entry_sum-end, entry_sum-reverse}
-use Rattle.audit_text.proofs.UsedGranules.{births_few, birth_count, birth_granules, birth_count-Some, birth_count-None, birth_granules-Some, birth_granules-None, used-sum}
-use Rattle.audit_text.proofs.Built.{all_reverse}
-use Rattle.audit_text.specs.Rendering.{IsBuiltEntry}
+use Rattle.audit_text.specs.Rendering.{total}
+use Rattle.audit_text.proofs.Sums.{entry_sum-more}
+use Rattle.audit_text.proofs.BirthLines.{born-more, born-same, born-end, born}
+use Rattle.audit_text.proofs.UsedGranules.{births_few, birth_count, birth_count-Some, birth_count-None, granules_after, granules_after-is, total-append, total-none, used-born}
 use Rattle.audit_text.proofs.totals.used_granules.Goals as goal
 use Rattle.audit_text.proofs.totals.used_granules.Goals.{in-Some, in_default}
 
 pub loop-entry-init : goal.loop-entry-init
 loop-entry-init c = record {
+  few = omega arith;
   sum = omega arith;
   small = omega (arith, births_few c.args.system.now c.args.entries.now c.requires.admitted c.requires.built);
 }
@@ -21,22 +22,29 @@ overflow_add-used c =
 
 pub loop-entry-preserved : goal.loop-entry-preserved
 loop-entry-preserved c =
+    let past = reverse c.args.entries.now in
+    let after = granules_after c.args.system.now past in
+    let n = c.loop-entry.domains in
     let counts = entry_sum-more birth_count c.loop-entry.entry-index c.args.entries.now c.entry-item.result c.entry-item.is (omega arith) in
-    let granules = entry_sum-more (birth_granules c.args.system.now) c.loop-entry.entry-index c.args.entries.now c.entry-item.result c.entry-item.is (omega arith) in
     elim c.match-made_template.branch [
       | in-Some w ↦
-          let one = birth_count-Some c.entry-item.result w.in-Some.template (sym c.made_template.ensures ∙ w.in-Some.is) in
-          let heap = birth_granules-Some c.args.system.now c.entry-item.result w.in-Some.template (sym c.made_template.ensures ∙ w.in-Some.is) in
-          record { sum = omega arith; small = omega arith }
+          let is = sym c.made_template.ensures ∙ w.in-Some.is in
+          let one = birth_count-Some c.entry-item.result w.in-Some.template is in
+          let split = ap total (born-more after n c.loop-entry.entry-index w.in-Some.template c.args.entries.now c.entry-item.result c.entry-item.is (omega arith) is) in
+          let sum = total-append (after (n + 1) w.in-Some.template c.entry-item.result.domain.0) (born after (n + 1) (drop (c.loop-entry.entry-index + 1) c.args.entries.now)) in
+          let here = granules_after-is c.args.system.now past (n + 1) w.in-Some.template c.entry-item.result.domain.0 w.end_reason.result w.end_reason.ensures in
+          record { few = omega arith; sum = rw w.domains-is (omega arith); small = omega arith }
       | in_default w ↦
-          let none = birth_count-None c.entry-item.result (sym c.made_template.ensures ∙ w.in_default.is) in
-          let no_heap = birth_granules-None c.args.system.now c.entry-item.result (sym c.made_template.ensures ∙ w.in_default.is) in
-          record { sum = omega arith; small = omega arith }
+          let is = sym c.made_template.ensures ∙ w.in_default.is in
+          let none = birth_count-None c.entry-item.result is in
+          let same = ap total (born-same after n c.loop-entry.entry-index c.args.entries.now c.entry-item.result c.entry-item.is (omega arith) is) in
+          record { few = omega arith; sum = rw w.domains-is (omega arith); small = omega arith }
     ]
 
 pub returns : goal.returns
 returns c =
-    let rest = entry_sum-end (birth_granules c.args.system.now) c.loop-entry.entry-index c.args.entries.now (drop_all c.loop-entry.entry-index c.args.entries.now (omega arith)) in
-    let used = used-sum c.args.system.now (reverse c.args.entries.now) (all_reverse IsBuiltEntry c.args.entries.now c.requires.built) in
-    let turned = entry_sum-reverse (birth_granules c.args.system.now) c.args.entries.now in
+    let after = granules_after c.args.system.now (reverse c.args.entries.now) in
+    let none = born-end after c.loop-entry.domains c.loop-entry.entry-index c.args.entries.now (drop_all c.loop-entry.entry-index c.args.entries.now (omega arith)) in
+    let rest = ap total none ∙ total-none in
+    let used = used-born c.args.system.now c.args.entries.now c.requires.built in
     omega arith

@@ -16,3 +16,9 @@ returns-in-NotYet g c = rw c.in-NotYet.is (rw c.as_str-in-NotYet.ensures.value a
 pub returns-in-OutOfMemory : goal.returns-in-OutOfMemory
 unfolding piece_text
 returns-in-OutOfMemory g c = rw c.in-OutOfMemory.is c.put_line-in-OutOfMemory.ensures
+
+pub returns-in-BadClass : goal.returns-in-BadClass
+unfolding piece_text
+returns-in-BadClass g c =
+    let put = rw (c.as_str-in-BadClass.ensures.value, c.from.ensures, c.kind_number.ensures) at c.put_line-in-BadClass.ensures in
+    rw c.in-BadClass.is put

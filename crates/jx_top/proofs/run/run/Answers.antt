@@ -1,14 +1,14 @@
 use Rattle.std.proofs.Common.{subst, sym, ◌∙◌}
 use Rattle.jx_base.specs.declared.act.History.{History}
 use Rattle.jx_base.specs.declared.program.System.{System}
-use Rattle.class_reader.specs.FirstClass.{first_class}
+use Rattle.first_class.specs.FirstClass.{first_class}
 use Rattle.jx_top.specs.FirstSystem.{first_system}
 use Rattle.jx_top.specs.Running.{IsRunOf}
 use Rattle.jx_top.proofs.FirstSystem.{first_plan_is, first_run}
 use Rattle.jx_top.proofs.run.run.Goals as goal
 
 pub link-requires-clause-plan : goal.link-requires-clause-plan
-link-requires-clause-plan c = c.in_ok-one_class_plan.ensures ∙ first_plan_is c.args.name.now c.requires.name
+link-requires-clause-plan c = c.in_ok-one_class.ensures ∙ first_plan_is c.args.name.now c.requires.name
 
 pub returns : goal.returns
 returns c =

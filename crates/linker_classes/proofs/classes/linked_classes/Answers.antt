@@ -1,7 +1,7 @@
 use Rattle.std.specs.Prelude.{◌≡◌, refl, ℕ, List, [], ◌∷◌, ◌++◌, length, codes, slice_set, slice_index_or}
 use Rattle.std.specs.Fmt.{digits}
 use Rattle.std.proofs.Common.{subst, sym, ap, ◌∙◌, arith}
-use Rattle.class_reader.specs.FirstClass.{first_class, first_constants, first_main, first_code}
+use Rattle.first_class.specs.FirstClass.{first_class, first_constants, first_main, first_code}
 use Rattle.jx_base.specs.declared.class_file.ClassFile.{ClassFile}
 use Rattle.jx_base.specs.declared.class_file.Instr.{Instr}
 use Rattle.jx_base.specs.declared.program.Class.{Class}

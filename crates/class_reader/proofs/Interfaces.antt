@@ -1,0 +1,23 @@
+-- An interface is the index of a class.
+use Rattle.std.proofs.Common.{◌≡◌, ℕ, List, [], ◌∷◌, Result, Ok, ap}
+use Rattle.jx_base.specs.declared.class_file.Constant.{Constant}
+use Rattle.jx_base.specs.declared.fault.ClassFault.{ClassFault}
+use Rattle.jx_base.specs.ClassGrammar.{interface_part}
+use Rattle.jx_base.specs.Members.{class_index}
+use Rattle.jx_base.specs.Parts.{onward}
+use Rattle.class_reader.specs.declared.error.ReadFault.{ReadFault}
+use Rattle.class_reader.specs.declared.error.ReadFault.TheVariants as fault
+use Rattle.class_reader.specs.Reading.{Fails}
+
+abbrev one_index : Result (ℕ × List ℕ) ClassFault → Result (List ℕ × List ℕ) ClassFault
+one_index read = onward read (λ i rest. Ok (i ∷ [], rest))
+
+pub interface_read : (size : ℕ) (constants : List Constant) (text : List ℕ) (i : ℕ) (rest : List ℕ) → (class_index size constants).reads text ≡ Ok (i, rest)
+    → (interface_part size constants).reads text ≡ Ok (i ∷ [], rest)
+unfolding interface_part
+interface_read size constants text i rest e = ap one_index e
+
+pub interface_fails : (e : ReadFault) (size : ℕ) (constants : List Constant) (text : List ℕ) → Fails e ((class_index size constants).reads text) → Fails e ((interface_part size constants).reads text)
+unfolding interface_part
+interface_fails fault.OutOfMemory size constants text h = tt
+interface_fails (fault.Bad f) size constants text h = ap one_index h

@@ -1,0 +1,10 @@
+use Rattle.std.proofs.Common.{◌≡◌, ◌-◌, ◌≤◌, length}
+use Rattle.jx_base.specs.Parts.{repeated}
+use Rattle.jx_base.specs.Members.{field_part}
+use Rattle.jx_base.proofs.Repeats.{with_front}
+use Rattle.class_reader.proofs.members.fields_at.Given as goal
+
+abbrev pub invariant-loop : goal.invariant-loop
+invariant-loop l =
+    let item = field_part l.size l.constants in
+    (with_front l.fields.items ((repeated (l.count - l.counter) item).reads l.rest) ≡ (repeated l.count item).reads l.bytes) × (length l.rest ≤ length l.bytes)

@@ -1,0 +1,13 @@
+use Rattle.std.proofs.Common.{[], ◌∷◌, arith}
+use Rattle.jx_base.specs.Members.{method_part}
+use Rattle.jx_base.proofs.Repeats.{goes_on, is_done}
+use Rattle.class_reader.proofs.members.methods_at.Goals as goal
+
+pub loop-preserved : goal.loop-preserved
+loop-preserved c =
+    let e = c.in_ok-push.ensures.items in
+    (rw e (goes_on (method_part c.args.size c.args.constants.now c.args.interface) c.loop.methods.items c.args.count c.loop.counter c.loop.rest.now (c.in_ok-method.method ∷ []) c.in_ok-method.after.now _ c.loop-test.true c.in_ok-method.ensures.read c.loop.invariant.0), omega (arith, c.in_ok-method.ensures.shorter))
+
+pub returns-clause-read : goal.returns-clause-read
+returns-clause-read c =
+    rw c.from_vec.ensures (is_done (method_part c.args.size c.args.constants.now c.args.interface) c.loop.methods.items c.args.count c.loop.counter c.loop.rest.now _ c.loop-test.false c.loop.invariant.0)

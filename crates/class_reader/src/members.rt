@@ -1,0 +1,219 @@
+//! Fields and methods (JVMS 4.5, 4.6).
+ghost use Rattle.std.specs.Prelude.{◌≡◌, ◌≤◌, ◌<◌, ◌^◌, ◌&&◌, ◌||◌, [], ◌∷◌, None, not, length, IfOk, codes};
+ghost use Rattle.std.specs.Str.{bytes_eq};
+ghost use Rattle.class_reader.specs.Attributes.{method_attribute};
+ghost use Rattle.class_reader.specs.Reading.{Gives};
+ghost use Rattle.jx_base.specs.Flags.{has_flag, is_abstract, is_native, is_synchronized};
+ghost use Rattle.jx_base.specs.Members.{field_part, method_attributes, method_part};
+ghost use Rattle.jx_base.specs.Parts.{repeated};
+
+use crate::code::code_body_at;
+use crate::descriptors::{is_floating_field, is_floating_method};
+use crate::error::{ReadFault, bad, cut_off_fault};
+use crate::names::{is_code, is_initialiser, name_at, skip_attributes};
+use crate::numbers::{bytes_at, place, u16_at, u32_at};
+use jx_base::{ClassKind, Code, Constant, Listed, Member, OutOfMemory, Text};
+use std::alloc::Global;
+
+#[tactic(auto, unfolding(jx_base::specs::Flags::has_flag))]
+pub fn has_flag(flag: u16, flags: u16) -> bool
+    requires { 0 < flag }
+    ensures { result ≡ has_flag flag flags }
+{
+    flags / flag % 2 == 1
+}
+
+#[tactic(auto, unfolding(jx_base::specs::Flags::is_abstract))]
+fn is_abstract(flags: u16) -> bool
+    ensures { result ≡ is_abstract flags }
+{
+    has_flag(0x0400, flags)
+}
+
+/// Whether the profile has such a method, apart from its types.
+#[tactic(auto, unfolding(jx_base::specs::Flags::is_native, jx_base::specs::Flags::is_synchronized))]
+fn is_supported(interface: bool, flags: u16, name: &[u16]) -> bool
+    ensures { result ≡ (not (is_native flags) && not (is_synchronized flags) && (not interface || is_abstract flags || bytes_eq name.now (codes "<clinit>"))) }
+{
+    !has_flag(0x0100, flags)
+        && !has_flag(0x0020, flags)
+        && (!interface || is_abstract(flags) || is_initialiser(name))
+}
+
+fn copy(alloc: Global, text: &[u16]) -> Result<Text, OutOfMemory>
+    ensures { IfOk result (λ copy. copy ≡ text.now) }
+{
+    Ok(Listed::from_vec(Vec::from_slice(alloc, text)?))
+}
+
+/// A field, with its attributes passed over.
+#[tactic(auto, unfolding(jx_base::specs::Members::field_part))]
+fn field_at<'b>(
+    alloc: Global,
+    size: u32,
+    constants: &[Constant],
+    bytes: &'b [u8],
+) -> Result<(Member, &'b [u8]), ReadFault>
+    requires { length bytes.now ≤ size }
+    ensures read { Gives (λ x. (x.0 ∷ [], x.1.now)) result ((field_part size constants.now).reads bytes.now) }
+    ensures shorter { IfOk result (λ x. length x.1.now ≤ length bytes.now) }
+{
+    let at = place(size, bytes);
+    let (flags, rest) = u16_at(cut_off_fault(size), bytes)?;
+    let (name, rest) = name_at(size, cut_off_fault(size), constants, rest)?;
+    let descriptor_at = place(size, rest);
+    let (descriptor, rest) = name_at(size, cut_off_fault(size), constants, rest)?;
+    let Some(floating) = is_floating_field(descriptor) else {
+        return Err(bad(descriptor_at, ClassKind::Descriptor));
+    };
+    if floating {
+        return Err(bad(at, ClassKind::Unsupported));
+    }
+    let rest = skip_attributes(size, cut_off_fault(size), constants, rest)?;
+    let field = Member {
+        flags,
+        name: copy(alloc, name)?,
+        descriptor: copy(alloc, descriptor)?,
+        code: None,
+    };
+    Ok((field, rest))
+}
+
+/// An attribute of a method, and the code that was found so far.
+#[tactic(auto, unfolding(crate::specs::Attributes::method_attribute))]
+fn attribute_at<'b>(
+    alloc: Global,
+    size: u32,
+    constants: &[Constant],
+    may_have: bool,
+    code: Option<Code>,
+    bytes: &'b [u8],
+) -> Result<(Option<Code>, &'b [u8]), ReadFault>
+    requires { length bytes.now ≤ size }
+    ensures read { Gives (λ x. (x.0, x.1.now)) result ((method_attribute size constants.now may_have code).reads bytes.now) }
+    ensures shorter { IfOk result (λ x. length x.1.now ≤ length bytes.now) }
+{
+    let at = place(size, bytes);
+    let (name, rest) = name_at(size, cut_off_fault(size), constants, bytes)?;
+    let (n, rest) = u32_at(cut_off_fault(size), rest)?;
+    if rest.len() < n as usize {
+        return Err(ReadFault::Bad(cut_off_fault(size)));
+    }
+    if !is_code(name) {
+        let (_, rest) = bytes_at(cut_off_fault(size), n as usize, rest)?;
+        return Ok((code, rest));
+    }
+    if !may_have || code.is_some() {
+        return Err(bad(at, ClassKind::Code));
+    }
+    let (found, rest) = code_body_at(alloc, size, at, constants, n, rest)?;
+    Ok((Some(found), rest))
+}
+
+/// A method's attributes, so many of them, and the code among them.
+fn attributes_at<'b>(
+    alloc: Global,
+    size: u32,
+    constants: &[Constant],
+    may_have: bool,
+    count: u16,
+    bytes: &'b [u8],
+) -> Result<(Option<Code>, &'b [u8]), ReadFault>
+    requires { length bytes.now ≤ size }
+    ensures read { Gives (λ x. (x.0, x.1.now)) result ((method_attributes size constants.now may_have count None).reads bytes.now) }
+    ensures shorter { IfOk result (λ x. length x.1.now ≤ length bytes.now) }
+{
+    let mut code = None;
+    let mut rest = bytes;
+    for _ in 0..count {
+        let (found, after) = attribute_at(alloc, size, constants, may_have, code, rest)?;
+        code = found;
+        rest = after;
+    }
+    Ok((code, rest))
+}
+
+/// A method, with its code.
+#[tactic(auto, unfolding(jx_base::specs::Members::method_part, jx_base::specs::Members::is_supported_method))]
+fn method_at<'b>(
+    alloc: Global,
+    size: u32,
+    constants: &[Constant],
+    interface: bool,
+    bytes: &'b [u8],
+) -> Result<(Member, &'b [u8]), ReadFault>
+    requires { length bytes.now ≤ size }
+    ensures read { Gives (λ x. (x.0 ∷ [], x.1.now)) result ((method_part size constants.now interface).reads bytes.now) }
+    ensures shorter { IfOk result (λ x. length x.1.now ≤ length bytes.now) }
+{
+    let at = place(size, bytes);
+    let (flags, rest) = u16_at(cut_off_fault(size), bytes)?;
+    let (name, rest) = name_at(size, cut_off_fault(size), constants, rest)?;
+    let descriptor_at = place(size, rest);
+    let (descriptor, rest) = name_at(size, cut_off_fault(size), constants, rest)?;
+    let Some(floating) = is_floating_method(descriptor) else {
+        return Err(bad(descriptor_at, ClassKind::Descriptor));
+    };
+    if floating || !is_supported(interface, flags, name) {
+        return Err(bad(at, ClassKind::Unsupported));
+    }
+    let (count, rest) = u16_at(cut_off_fault(size), rest)?;
+    let (code, rest) = attributes_at(alloc, size, constants, !is_abstract(flags), count, rest)?;
+    if !is_abstract(flags) && code.is_none() {
+        return Err(bad(at, ClassKind::Code));
+    }
+    let method = Member {
+        flags,
+        name: copy(alloc, name)?,
+        descriptor: copy(alloc, descriptor)?,
+        code,
+    };
+    Ok((method, rest))
+}
+
+/// So many fields.
+#[tactic(auto, using(crate::proofs::Fronts::fronts))]
+pub fn fields_at<'b>(
+    alloc: Global,
+    size: u32,
+    constants: &[Constant],
+    count: u16,
+    bytes: &'b [u8],
+) -> Result<(Listed<Member>, &'b [u8]), ReadFault>
+    requires { length bytes.now ≤ size }
+    ensures read { Gives (λ x. (x.0, x.1.now)) result ((repeated count (field_part size constants.now)).reads bytes.now) }
+    ensures shorter { IfOk result (λ x. length x.1.now ≤ length bytes.now) }
+{
+    let mut fields = Vec::new(alloc);
+    let mut rest = bytes;
+    for _ in 0..count {
+        let (field, after) = field_at(alloc, size, constants, rest)?;
+        fields.push(field)?;
+        rest = after;
+    }
+    Ok((Listed::from_vec(fields), rest))
+}
+
+/// So many methods.
+#[tactic(auto, using(crate::proofs::Fronts::fronts))]
+pub fn methods_at<'b>(
+    alloc: Global,
+    size: u32,
+    constants: &[Constant],
+    interface: bool,
+    count: u16,
+    bytes: &'b [u8],
+) -> Result<(Listed<Member>, &'b [u8]), ReadFault>
+    requires { length bytes.now ≤ size }
+    ensures read { Gives (λ x. (x.0, x.1.now)) result ((repeated count (method_part size constants.now interface)).reads bytes.now) }
+    ensures shorter { IfOk result (λ x. length x.1.now ≤ length bytes.now) }
+{
+    let mut methods = Vec::new(alloc);
+    let mut rest = bytes;
+    for _ in 0..count {
+        let (method, after) = method_at(alloc, size, constants, interface, rest)?;
+        methods.push(method)?;
+        rest = after;
+    }
+    Ok((Listed::from_vec(methods), rest))
+}

@@ -1,0 +1,9 @@
+pub mod CodeSteps
+pub mod KeyTargets
+pub mod Places
+pub mod Placing
+pub mod ReadingLaws
+pub mod Repeats
+pub mod Rises
+pub mod Sound
+pub mod Starts

@@ -1,0 +1,3 @@
+pub mod CodeLaws
+pub mod CodeReading
+pub mod Readings

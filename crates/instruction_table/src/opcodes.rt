@@ -1,0 +1,377 @@
+//! The one table of opcodes.
+ghost use Rattle.std.specs.Prelude.{◌≡◌};
+ghost use Rattle.jx_base.specs.Opcodes.{opcode_at};
+
+use jx_base::{
+    Comparison, Conversion, Division, Element, Form, Invocation, Kind, Local, Operator, Row, Shift,
+    Slots, Value,
+};
+
+/// What the table says of an opcode.
+#[derive(Clone, Copy)]
+pub struct Opcode {
+    pub mnemonic: &'static str,
+    pub form: Form,
+    pub row: Row,
+}
+
+// An opcode that no class file may use.
+const LEFT_OUT: (&str, Form, Row) = ("", Form::LeftOut, Row::Missing);
+
+// The opcodes from 00 on.
+static OPCODES: [(&str, Form, Row); 202] = [
+    // 00 to 14: constants
+    ("nop", Form::Plain, Row::Nop),
+    ("aconst_null", Form::Plain, Row::Push(Value::Null)),
+    ("iconst_m1", Form::Plain, Row::Push(Value::Int(-1))),
+    ("iconst_0", Form::Plain, Row::Push(Value::Int(0))),
+    ("iconst_1", Form::Plain, Row::Push(Value::Int(1))),
+    ("iconst_2", Form::Plain, Row::Push(Value::Int(2))),
+    ("iconst_3", Form::Plain, Row::Push(Value::Int(3))),
+    ("iconst_4", Form::Plain, Row::Push(Value::Int(4))),
+    ("iconst_5", Form::Plain, Row::Push(Value::Int(5))),
+    ("lconst_0", Form::Plain, Row::Push(Value::Long(0))),
+    ("lconst_1", Form::Plain, Row::Push(Value::Long(1))),
+    LEFT_OUT,
+    LEFT_OUT,
+    LEFT_OUT,
+    LEFT_OUT,
+    LEFT_OUT,
+    ("bipush", Form::SignedByte, Row::PushOperand),
+    ("sipush", Form::SignedShort, Row::PushOperand),
+    ("ldc", Form::Byte, Row::PushConstant),
+    ("ldc_w", Form::Index, Row::PushConstant),
+    ("ldc2_w", Form::Index, Row::PushLong),
+    // 15 to 35: loads
+    ("iload", Form::Byte, Row::Load(Kind::Int, Local::Named)),
+    ("lload", Form::Byte, Row::Load(Kind::Long, Local::Named)),
+    LEFT_OUT,
+    LEFT_OUT,
+    (
+        "aload",
+        Form::Byte,
+        Row::Load(Kind::Reference, Local::Named),
+    ),
+    (
+        "iload_0",
+        Form::Plain,
+        Row::Load(Kind::Int, Local::Fixed(0)),
+    ),
+    (
+        "iload_1",
+        Form::Plain,
+        Row::Load(Kind::Int, Local::Fixed(1)),
+    ),
+    (
+        "iload_2",
+        Form::Plain,
+        Row::Load(Kind::Int, Local::Fixed(2)),
+    ),
+    (
+        "iload_3",
+        Form::Plain,
+        Row::Load(Kind::Int, Local::Fixed(3)),
+    ),
+    (
+        "lload_0",
+        Form::Plain,
+        Row::Load(Kind::Long, Local::Fixed(0)),
+    ),
+    (
+        "lload_1",
+        Form::Plain,
+        Row::Load(Kind::Long, Local::Fixed(1)),
+    ),
+    (
+        "lload_2",
+        Form::Plain,
+        Row::Load(Kind::Long, Local::Fixed(2)),
+    ),
+    (
+        "lload_3",
+        Form::Plain,
+        Row::Load(Kind::Long, Local::Fixed(3)),
+    ),
+    LEFT_OUT,
+    LEFT_OUT,
+    LEFT_OUT,
+    LEFT_OUT,
+    LEFT_OUT,
+    LEFT_OUT,
+    LEFT_OUT,
+    LEFT_OUT,
+    (
+        "aload_0",
+        Form::Plain,
+        Row::Load(Kind::Reference, Local::Fixed(0)),
+    ),
+    (
+        "aload_1",
+        Form::Plain,
+        Row::Load(Kind::Reference, Local::Fixed(1)),
+    ),
+    (
+        "aload_2",
+        Form::Plain,
+        Row::Load(Kind::Reference, Local::Fixed(2)),
+    ),
+    (
+        "aload_3",
+        Form::Plain,
+        Row::Load(Kind::Reference, Local::Fixed(3)),
+    ),
+    ("iaload", Form::Plain, Row::LoadElement(Element::Int)),
+    ("laload", Form::Plain, Row::LoadElement(Element::Long)),
+    LEFT_OUT,
+    LEFT_OUT,
+    ("aaload", Form::Plain, Row::LoadElement(Element::Reference)),
+    ("baload", Form::Plain, Row::LoadElement(Element::Byte)),
+    ("caload", Form::Plain, Row::LoadElement(Element::Char)),
+    ("saload", Form::Plain, Row::LoadElement(Element::Short)),
+    // 36 to 56: stores
+    ("istore", Form::Byte, Row::Store(Kind::Int, Local::Named)),
+    ("lstore", Form::Byte, Row::Store(Kind::Long, Local::Named)),
+    LEFT_OUT,
+    LEFT_OUT,
+    (
+        "astore",
+        Form::Byte,
+        Row::Store(Kind::Reference, Local::Named),
+    ),
+    (
+        "istore_0",
+        Form::Plain,
+        Row::Store(Kind::Int, Local::Fixed(0)),
+    ),
+    (
+        "istore_1",
+        Form::Plain,
+        Row::Store(Kind::Int, Local::Fixed(1)),
+    ),
+    (
+        "istore_2",
+        Form::Plain,
+        Row::Store(Kind::Int, Local::Fixed(2)),
+    ),
+    (
+        "istore_3",
+        Form::Plain,
+        Row::Store(Kind::Int, Local::Fixed(3)),
+    ),
+    (
+        "lstore_0",
+        Form::Plain,
+        Row::Store(Kind::Long, Local::Fixed(0)),
+    ),
+    (
+        "lstore_1",
+        Form::Plain,
+        Row::Store(Kind::Long, Local::Fixed(1)),
+    ),
+    (
+        "lstore_2",
+        Form::Plain,
+        Row::Store(Kind::Long, Local::Fixed(2)),
+    ),
+    (
+        "lstore_3",
+        Form::Plain,
+        Row::Store(Kind::Long, Local::Fixed(3)),
+    ),
+    LEFT_OUT,
+    LEFT_OUT,
+    LEFT_OUT,
+    LEFT_OUT,
+    LEFT_OUT,
+    LEFT_OUT,
+    LEFT_OUT,
+    LEFT_OUT,
+    (
+        "astore_0",
+        Form::Plain,
+        Row::Store(Kind::Reference, Local::Fixed(0)),
+    ),
+    (
+        "astore_1",
+        Form::Plain,
+        Row::Store(Kind::Reference, Local::Fixed(1)),
+    ),
+    (
+        "astore_2",
+        Form::Plain,
+        Row::Store(Kind::Reference, Local::Fixed(2)),
+    ),
+    (
+        "astore_3",
+        Form::Plain,
+        Row::Store(Kind::Reference, Local::Fixed(3)),
+    ),
+    ("iastore", Form::Plain, Row::StoreElement(Element::Int)),
+    ("lastore", Form::Plain, Row::StoreElement(Element::Long)),
+    LEFT_OUT,
+    LEFT_OUT,
+    (
+        "aastore",
+        Form::Plain,
+        Row::StoreElement(Element::Reference),
+    ),
+    ("bastore", Form::Plain, Row::StoreElement(Element::Byte)),
+    ("castore", Form::Plain, Row::StoreElement(Element::Char)),
+    ("sastore", Form::Plain, Row::StoreElement(Element::Short)),
+    // 57 to 5F: the stack
+    ("pop", Form::Plain, Row::Discard(Slots::One)),
+    ("pop2", Form::Plain, Row::Discard(Slots::Two)),
+    ("dup", Form::Plain, Row::Copy(Slots::One, Slots::Zero)),
+    ("dup_x1", Form::Plain, Row::Copy(Slots::One, Slots::One)),
+    ("dup_x2", Form::Plain, Row::Copy(Slots::One, Slots::Two)),
+    ("dup2", Form::Plain, Row::Copy(Slots::Two, Slots::Zero)),
+    ("dup2_x1", Form::Plain, Row::Copy(Slots::Two, Slots::One)),
+    ("dup2_x2", Form::Plain, Row::Copy(Slots::Two, Slots::Two)),
+    ("swap", Form::Plain, Row::Swap),
+    // 60 to 84: arithmetic
+    ("iadd", Form::Plain, Row::IntOperate(Operator::Add)),
+    ("ladd", Form::Plain, Row::LongOperate(Operator::Add)),
+    LEFT_OUT,
+    LEFT_OUT,
+    ("isub", Form::Plain, Row::IntOperate(Operator::Subtract)),
+    ("lsub", Form::Plain, Row::LongOperate(Operator::Subtract)),
+    LEFT_OUT,
+    LEFT_OUT,
+    ("imul", Form::Plain, Row::IntOperate(Operator::Multiply)),
+    ("lmul", Form::Plain, Row::LongOperate(Operator::Multiply)),
+    LEFT_OUT,
+    LEFT_OUT,
+    ("idiv", Form::Plain, Row::IntDivide(Division::Quotient)),
+    ("ldiv", Form::Plain, Row::LongDivide(Division::Quotient)),
+    LEFT_OUT,
+    LEFT_OUT,
+    ("irem", Form::Plain, Row::IntDivide(Division::Remainder)),
+    ("lrem", Form::Plain, Row::LongDivide(Division::Remainder)),
+    LEFT_OUT,
+    LEFT_OUT,
+    ("ineg", Form::Plain, Row::IntNegate),
+    ("lneg", Form::Plain, Row::LongNegate),
+    LEFT_OUT,
+    LEFT_OUT,
+    ("ishl", Form::Plain, Row::IntShift(Shift::Left)),
+    ("lshl", Form::Plain, Row::LongShift(Shift::Left)),
+    ("ishr", Form::Plain, Row::IntShift(Shift::Right)),
+    ("lshr", Form::Plain, Row::LongShift(Shift::Right)),
+    ("iushr", Form::Plain, Row::IntShift(Shift::UnsignedRight)),
+    ("lushr", Form::Plain, Row::LongShift(Shift::UnsignedRight)),
+    ("iand", Form::Plain, Row::IntOperate(Operator::And)),
+    ("land", Form::Plain, Row::LongOperate(Operator::And)),
+    ("ior", Form::Plain, Row::IntOperate(Operator::Or)),
+    ("lor", Form::Plain, Row::LongOperate(Operator::Or)),
+    ("ixor", Form::Plain, Row::IntOperate(Operator::Xor)),
+    ("lxor", Form::Plain, Row::LongOperate(Operator::Xor)),
+    ("iinc", Form::Increment, Row::Increment),
+    // 85 to 93: conversions
+    ("i2l", Form::Plain, Row::Convert(Conversion::IntToLong)),
+    LEFT_OUT,
+    LEFT_OUT,
+    ("l2i", Form::Plain, Row::Convert(Conversion::LongToInt)),
+    LEFT_OUT,
+    LEFT_OUT,
+    LEFT_OUT,
+    LEFT_OUT,
+    LEFT_OUT,
+    LEFT_OUT,
+    LEFT_OUT,
+    LEFT_OUT,
+    ("i2b", Form::Plain, Row::Convert(Conversion::IntToByte)),
+    ("i2c", Form::Plain, Row::Convert(Conversion::IntToChar)),
+    ("i2s", Form::Plain, Row::Convert(Conversion::IntToShort)),
+    // 94 to A6: comparisons and branches
+    ("lcmp", Form::Plain, Row::CompareLongs),
+    LEFT_OUT,
+    LEFT_OUT,
+    LEFT_OUT,
+    LEFT_OUT,
+    ("ifeq", Form::Branch, Row::IfZero(Comparison::Equal)),
+    ("ifne", Form::Branch, Row::IfZero(Comparison::NotEqual)),
+    ("iflt", Form::Branch, Row::IfZero(Comparison::Less)),
+    ("ifge", Form::Branch, Row::IfZero(Comparison::AtLeast)),
+    ("ifgt", Form::Branch, Row::IfZero(Comparison::Greater)),
+    ("ifle", Form::Branch, Row::IfZero(Comparison::AtMost)),
+    ("if_icmpeq", Form::Branch, Row::IfInts(Comparison::Equal)),
+    ("if_icmpne", Form::Branch, Row::IfInts(Comparison::NotEqual)),
+    ("if_icmplt", Form::Branch, Row::IfInts(Comparison::Less)),
+    ("if_icmpge", Form::Branch, Row::IfInts(Comparison::AtLeast)),
+    ("if_icmpgt", Form::Branch, Row::IfInts(Comparison::Greater)),
+    ("if_icmple", Form::Branch, Row::IfInts(Comparison::AtMost)),
+    ("if_acmpeq", Form::Branch, Row::IfSame(true)),
+    ("if_acmpne", Form::Branch, Row::IfSame(false)),
+    // A7 to B1: control
+    ("goto", Form::Branch, Row::Goto),
+    LEFT_OUT,
+    LEFT_OUT,
+    ("tableswitch", Form::TableSwitch, Row::TableSwitch),
+    ("lookupswitch", Form::LookupSwitch, Row::LookupSwitch),
+    ("ireturn", Form::Plain, Row::Return(Kind::Int)),
+    ("lreturn", Form::Plain, Row::Return(Kind::Long)),
+    LEFT_OUT,
+    LEFT_OUT,
+    ("areturn", Form::Plain, Row::Return(Kind::Reference)),
+    ("return", Form::Plain, Row::ReturnVoid),
+    // B2 to C3: fields, methods and objects
+    ("getstatic", Form::Index, Row::GetStatic),
+    ("putstatic", Form::Index, Row::PutStatic),
+    ("getfield", Form::Index, Row::GetField),
+    ("putfield", Form::Index, Row::PutField),
+    (
+        "invokevirtual",
+        Form::Index,
+        Row::Invoke(Invocation::Virtual),
+    ),
+    (
+        "invokespecial",
+        Form::Index,
+        Row::Invoke(Invocation::Special),
+    ),
+    ("invokestatic", Form::Index, Row::Invoke(Invocation::Static)),
+    (
+        "invokeinterface",
+        Form::Interface,
+        Row::Invoke(Invocation::Interface),
+    ),
+    LEFT_OUT,
+    ("new", Form::Index, Row::New),
+    ("newarray", Form::ArrayType, Row::NewArray),
+    ("anewarray", Form::Index, Row::NewReferenceArray),
+    ("arraylength", Form::Plain, Row::ArrayLength),
+    ("athrow", Form::Plain, Row::Throw),
+    ("checkcast", Form::Index, Row::CheckCast),
+    ("instanceof", Form::Index, Row::InstanceOf),
+    LEFT_OUT,
+    LEFT_OUT,
+    // C4 to C9: extended
+    ("wide", Form::Wide, Row::Missing),
+    ("multianewarray", Form::Dimensions, Row::NewMultiArray),
+    ("ifnull", Form::Branch, Row::IfNull(true)),
+    ("ifnonnull", Form::Branch, Row::IfNull(false)),
+    ("goto_w", Form::FarBranch, Row::Goto),
+    LEFT_OUT,
+];
+
+/// What the table says of the opcode of that number.
+pub fn opcode_of(number: u8) -> Opcode
+    ensures mnemonic { result.mnemonic.now ≡ (opcode_at number).mnemonic }
+    ensures form { result.form ≡ (opcode_at number).form }
+    ensures row { result.row ≡ (opcode_at number).row }
+{
+    let place = usize::from(number);
+    if place < OPCODES.len() {
+        let (mnemonic, form, row) = OPCODES[place];
+        return Opcode {
+            mnemonic,
+            form,
+            row,
+        };
+    }
+    Opcode {
+        mnemonic: "",
+        form: Form::Unassigned,
+        row: Row::Missing,
+    }
+}

@@ -1,0 +1,92 @@
+//! The first class, cut off, with a byte more, and with other bytes at its front.
+
+use crate::parts::{bytes_of, told};
+use first_class::FIRST_CLASS;
+use jx_base::{ClassKind, OutOfMemory};
+use std::alloc::Global;
+use std::test::Fail;
+
+/// Each with the place of the other bytes.
+static PATCHES: [(&str, usize, &str, Option<(u32, ClassKind)>); 14] = [
+    ("another first byte", 0, "cb", Some((0, ClassKind::Magic))),
+    (
+        "another last byte of the magic number",
+        3,
+        "bf",
+        Some((0, ClassKind::Magic)),
+    ),
+    (
+        "a magic number with its lowest byte first",
+        0,
+        "bebafeca",
+        Some((0, ClassKind::Magic)),
+    ),
+    (
+        "a magic number is told before the version",
+        0,
+        "00000000 0000 0035",
+        Some((0, ClassKind::Magic)),
+    ),
+    ("version 0", 6, "0000", Some((6, ClassKind::Version))),
+    ("version 44", 6, "002c", Some((6, ClassKind::Version))),
+    ("version 45", 6, "002d", None),
+    ("version 45.3", 4, "0003 002d", None),
+    ("version 51", 6, "0033", None),
+    ("version 52.65535", 4, "ffff", None),
+    ("version 53", 6, "0035", Some((6, ClassKind::Version))),
+    (
+        "version 52 in the higher byte",
+        6,
+        "3400",
+        Some((6, ClassKind::Version)),
+    ),
+    (
+        "a version is told before the count",
+        6,
+        "0035 0000",
+        Some((6, ClassKind::Version)),
+    ),
+    ("no constants", 8, "0000", Some((8, ClassKind::Index))),
+];
+
+/// The first class with other bytes at a place.
+fn patched(alloc: Global, place: usize, hex: &str) -> Result<Vec<u8>, OutOfMemory> {
+    let patch = bytes_of(alloc, hex)?;
+    let mut bytes = Vec::from_slice(alloc, &FIRST_CLASS)?;
+    for (byte, other) in bytes.iter_mut().skip(place).zip(patch.iter()) {
+        *byte = *other;
+    }
+    Ok(bytes)
+}
+
+#[test]
+fn heads_are_told(rt: HostRuntime) -> Result<(), Fail> {
+    let alloc = rt.alloc();
+    for (name, place, hex, want) in &PATCHES {
+        let bytes = patched(alloc, *place, hex)?;
+        assert_eq!(rt; told(alloc, bytes.as_slice())?, *want, "{name}");
+    }
+    Ok(())
+}
+
+#[test]
+fn each_front_is_truncated(rt: HostRuntime) -> Result<(), Fail> {
+    let alloc = rt.alloc();
+    for k in 0..191 {
+        let want = Some((k, ClassKind::Truncated));
+        assert_eq!(rt; told(alloc, &FIRST_CLASS[..k as usize])?, want, "{k} bytes");
+    }
+    Ok(())
+}
+
+#[test]
+fn byte_more_is_trailing(rt: HostRuntime) -> Result<(), Fail> {
+    let alloc = rt.alloc();
+    let mut bytes = Vec::from_slice(alloc, &FIRST_CLASS)?;
+    bytes.push(0)?;
+    assert_eq!(rt;
+        told(alloc, bytes.as_slice())?,
+        Some((191, ClassKind::Trailing))
+    );
+    Ok(())
+}

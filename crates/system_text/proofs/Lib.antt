@@ -1,0 +1,12 @@
+pub mod Items
+pub mod Repeats
+pub mod Chains
+pub mod Maps
+pub mod Distinct
+pub mod TextSets
+pub mod Scanned
+pub mod Readings
+pub mod Fitting
+pub mod Capped
+pub mod Places
+pub mod InRange

@@ -1,0 +1,4 @@
+pub mod Keys
+pub mod Description
+pub mod Scan
+pub mod Answers
