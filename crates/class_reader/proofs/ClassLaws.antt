@@ -18,8 +18,8 @@ use Rattle.class_reader.specs.declared.error.ReadFault.{ReadFault}
 use Rattle.class_reader.specs.declared.error.ReadFault.TheVariants as fault
 use Rattle.class_reader.specs.Classes.{IsFaultOf, IsReadAs, IsRefusedFor}
 use Rattle.class_reader.specs.Reading.{Gives}
-use Rattle.class_reader.proofs.TextLaws.{text_law}
-use Rattle.class_reader.proofs.DescriptorLaws.{field_law, method_law}
+use Rattle.class_texts.proofs.TextLaws.{text_law}
+use Rattle.class_texts.proofs.DescriptorLaws.{field_law, method_law}
 
 -- ---- constants
 

@@ -1,11 +1,6 @@
 pub mod Attributes
 pub mod ClassLaws
-pub mod DescriptorLaws
 pub mod Ends
 pub mod Fronts
 pub mod Interfaces
 pub mod Pools
-pub mod Shapes
-pub mod Tests
-pub mod TextLaws
-pub mod Texts

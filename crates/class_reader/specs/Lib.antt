@@ -2,5 +2,4 @@ pub mod Attributes
 pub mod Classes
 pub mod Pools
 pub mod Reading
-pub mod Shapes
-pub mod Texts
+pub use Rattle.class_texts.specs.Texts

@@ -5,7 +5,7 @@ ghost use Rattle.jx_base.specs.Constants.{tag_of, index_pair, utf8_body, skipped
 
 use crate::error::{ReadFault, bad, cut_off_fault};
 use crate::numbers::{bytes_at, place, u8_at, u16_at, u32_at, u64_at};
-use crate::utf8::{utf8_length, utf8_read};
+use class_texts::{utf8_length, utf8_read};
 use jx_base::{ClassKind, Constant, ConstantTag};
 use std::alloc::Global;
 

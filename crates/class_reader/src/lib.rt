@@ -4,16 +4,14 @@
 mod class;
 mod code;
 mod constants;
-mod descriptors;
 mod error;
 mod laws;
 mod members;
 mod names;
 mod numbers;
 mod pool;
-mod utf8;
 
 pub use class::read_class;
+pub use class_texts::{utf8_read, utf8_write};
 pub use error::ReadFault;
 pub use laws::one_reading;
-pub use utf8::{utf8_read, utf8_write};

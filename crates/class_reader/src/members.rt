@@ -8,10 +8,10 @@ ghost use Rattle.jx_base.specs.Members.{field_part, method_attributes, method_pa
 ghost use Rattle.jx_base.specs.Parts.{repeated};
 
 use crate::code::code_body_at;
-use crate::descriptors::{is_floating_field, is_floating_method};
 use crate::error::{ReadFault, bad, cut_off_fault};
 use crate::names::{is_code, is_initialiser, name_at, skip_attributes};
 use crate::numbers::{bytes_at, place, u16_at, u32_at};
+use class_texts::{is_floating_field, is_floating_method};
 use jx_base::{ClassKind, Code, Constant, Listed, Member, OutOfMemory, Text};
 use std::alloc::Global;
 

@@ -1,5 +1,5 @@
 use Rattle.class_reader.proofs.ClassLaws as classes
-use Rattle.class_reader.proofs.TextLaws as texts
+use Rattle.class_texts.proofs.TextLaws as texts
 use Rattle.class_reader.proofs.laws.one_reading.Goals as goal
 
 pub returns-clause-one_file : goal.returns-clause-one_file

@@ -1,0 +1,5 @@
+pub mod DescriptorLaws
+pub mod Shapes
+pub mod Tests
+pub mod TextLaws
+pub mod Texts
