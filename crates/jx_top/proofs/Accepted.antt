@@ -20,9 +20,7 @@ use Rattle.code_reader.proofs.ReadingLaws.{code_found}
 use Rattle.first_class.specs.FirstClass.{first_bytes, first_class, first_constants, first_main, first_code}
 use Rattle.jx_top.specs.Classes.{IsReadCode, IsReadClass, IsBadClass}
 use Rattle.jx_top.specs.FirstRun.{own_name}
-use Rattle.jx_top.specs.Words.{IsFileOf, AsksFor, AsksForRun, file_of}
-use Rattle.jx_top.specs.declared.request.Request.{Request}
-use Rattle.jx_top.specs.declared.request.Request.TheVariants.{Run}
+use Rattle.jx_top.specs.Words.{IsFileOf}
 use Rattle.jx_top.specs.Outcome.{IsKnownClass, HasClass, HasToldCause, HasCause, IsDoneOrOutOfMemory, HasBadClass, HasOtherClass, IsShortFile, IsRefusedOrOutOfMemory}
 use Rattle.jx_top.specs.declared.defect.Defect.{Defect}
 use Rattle.jx_top.specs.declared.status.Status.{Status}
@@ -110,6 +108,7 @@ told_done files file status.ShelfFault h cause shelf sink = absurd (shelf refl)
 told_done files file (status.Missing n) h cause shelf sink = let none : None ≡ Some h.bytes = sym cause.1 ∙ h.found in absurd (cc)
 told_done files file (status.TooLong n) h cause shelf sink = absurd (not_long files file h.bytes h.found h.known.0 cause.1)
 told_done files file (status.BadClass n d) h cause shelf sink = absurd (not_bad files file (string_bytes n) d h cause)
+told_done files file (status.BadAsm f) h cause shelf sink = absurd cause
 told_done files file status.SinkFault h cause shelf sink = absurd (sink refl)
 told_done files file (status.NotYet n) h cause shelf sink = absurd (not_other files file (string_bytes n) h cause)
 told_done files file status.OutOfMemory h cause shelf sink = tt
@@ -144,6 +143,7 @@ told_refused files file name d status.ShelfFault h small cause shelf = absurd (s
 told_refused files file name d (status.Missing n) h small cause shelf = let none : None ≡ Some h.bytes = sym cause.1 ∙ h.found in absurd (cc)
 told_refused files file name d (status.TooLong n) h small cause shelf = absurd (not_both_lengths files file h.bytes h.found small cause.1)
 told_refused files file name d (status.BadClass n e) h small cause shelf = bad_same files file name (string_bytes n) d e h cause
+told_refused files file name d (status.BadAsm f) h small cause shelf = absurd cause
 told_refused files file name d status.SinkFault h small cause shelf = absurd (not_bad files file name d cause h)
 told_refused files file name d (status.NotYet n) h small cause shelf = absurd (bad_not_other files file name (string_bytes n) d h cause)
 told_refused files file name d status.OutOfMemory h small cause shelf = tt
@@ -152,12 +152,3 @@ pub refused_or_memory : (told : Option Files) (files : Files) (file name : List 
     → IsShortFile files file → HasCause told file outcome → (outcome ≡ status.ShelfFault → ⊥) → IsRefusedOrOutOfMemory d outcome
 refused_or_memory told files file name d outcome is h small cause =
     told_refused files file name d outcome h small (subst (λ (t : Option Files). HasCause t file outcome) is cause)
-
--- the file that words ask for
-run_of : List (List ℕ) → List ℕ
-run_of (verb ∷ file ∷ words) = file
-run_of _ = []
-
-pub one_asked : (words : List (List ℕ)) (request : Request) (file : List ℕ) → AsksFor words request → AsksForRun words file → file_of request ≡ file
-unfolding run_of
-one_asked words (Run f workers) file p q = sym (ap run_of p.0.are_run) ∙ ap run_of q.are_run

@@ -4,3 +4,5 @@ pub mod ReadMethods
 pub mod Accepted
 pub mod Prints
 pub mod Linking
+pub mod Assemblies
+pub mod Asked

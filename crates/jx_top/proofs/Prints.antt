@@ -54,3 +54,4 @@ prints told file name before now (status.Missing n) h named p = absurd p
 prints told file name before now (status.TooLong n) h named p = absurd p
 prints told file name before now (status.BadClass n d) h named p = absurd p
 prints told file name before now (status.NotYet n) h named p = absurd p
+prints told file name before now (status.BadAsm f) h named p = absurd p

@@ -6,3 +6,5 @@ pub mod FirstSystem
 pub mod Classes
 pub mod Headline
 pub mod Running
+pub mod Assembling
+pub mod Requests

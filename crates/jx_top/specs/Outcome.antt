@@ -54,6 +54,7 @@ HasToldCause files file status.ShelfFault = Unit {0}
 HasToldCause files file (status.Missing n) = (string_bytes n ≡ file) × (files file ≡ None)
 HasToldCause files file (status.TooLong n) = (string_bytes n ≡ file) × HasLongFile files file
 HasToldCause files file (status.BadClass n d) = HasBadClass files file (string_bytes n) d
+HasToldCause files file (status.BadAsm f) = ⊥
 HasToldCause files file status.SinkFault = HasClass files file
 HasToldCause files file (status.NotYet n) = HasOtherClass files file (string_bytes n)
 HasToldCause files file status.OutOfMemory = Unit {0}
@@ -62,6 +63,7 @@ HasToldCause files file status.OutOfMemory = Unit {0}
 abbrev pub HasCause : Option Files → List ℕ → Status → Type 0
 HasCause (Some files) file outcome = HasToldCause files file outcome
 HasCause None file status.Usage = ⊥
+HasCause None file (status.BadAsm f) = ⊥
 HasCause None file _ = Unit {0}
 
 -- the bytes of the file, or why there are none

@@ -1,9 +1,9 @@
 -- The words of a command.
-use Rattle.std.specs.Prelude.{◌≡◌, ◌≤◌, ℕ, List, [], ◌∷◌, ◌++◌, codes, map, length, IsTrue, String, string_bytes}
+use Rattle.std.specs.Prelude.{◌≡◌, ◌≤◌, ◌==◌, ◌&&◌, ℕ, Bool, false, List, [], ◌∷◌, ◌++◌, Option, Some, None, codes, map, length, IsTrue, String, string_bytes, if◌then◌else◌}
 use Rattle.std.specs.declared.alloc.Global.{Global}
 use Rattle.jx_base.specs.ClassNames.{is_class_name}
 use Rattle.jx_top.specs.declared.request.Request.{Request}
-use Rattle.jx_top.specs.declared.request.Request.TheVariants.{Run}
+use Rattle.jx_top.specs.declared.request.Request.TheVariants.{Run, Asm}
 
 -- the file of a class: the class's name and `.class`
 pub record IsFileOf (file name : List ℕ) : Type 0 where
@@ -20,26 +20,71 @@ pub record AsksForRun (words : List (List ℕ)) (file : List ℕ) : Type 0 where
   pub are_run : words ≡ codes "run" ∷ file ∷ []
   pub of_class : IsClassFileName file
 
+-- the word is `--`, behind which no word is an option
+abbrev pub is_dashes : List ℕ → Bool
+is_dashes (first ∷ second ∷ []) = (first == 45) && (second == 45)
+is_dashes _ = false
+
+-- an option begins with `-` and is longer
+abbrev pub is_option : List ℕ → Bool
+is_option (first ∷ second ∷ rest) = first == 45
+is_option _ = false
+
+-- a word that is no option
+abbrev pub plain_word : List ℕ → Option (List ℕ)
+plain_word word = if is_option word then None else Some word
+
+-- the one word beside `--`
+abbrev pub beside_dashes : List ℕ → List ℕ → Option (List ℕ)
+beside_dashes first second =
+    if is_dashes first then Some second else if is_dashes second then plain_word first else None
+
+-- the one place word, where there is one and no option
+abbrev pub place_word : List (List ℕ) → Option (List ℕ)
+place_word (word ∷ []) = plain_word word
+place_word (first ∷ second ∷ []) = beside_dashes first second
+place_word _ = None
+
+-- the words ask for the class file that the text in the file says
+pub record AsksForAsm (words : List (List ℕ)) (file : List ℕ) : Type 0 where
+  pub rest : List (List ℕ)
+  pub are_asm : words ≡ codes "asm" ∷ rest
+  pub place : place_word rest ≡ Some file
+  pub filled : 1 ≤ length file
+  pub short : length file ≤ 255
+
 -- the words ask for this
 abbrev pub AsksFor : List (List ℕ) → Request → Type 0
 AsksFor words (Run file workers) = AsksForRun words (string_bytes file) × (workers ≡ 1)
+AsksFor words (Asm file) = AsksForAsm words (string_bytes file)
+
+-- the words ask for no run
+abbrev pub AsksForNoRun : List (List ℕ) → Type 0
+AsksForNoRun words = (file : List ℕ) → AsksForRun words file → ⊥
+
+-- the words ask for no class file of a text
+abbrev pub AsksForNoAsm : List (List ℕ) → Type 0
+AsksForNoAsm words = (file : List ℕ) → AsksForAsm words file → ⊥
 
 -- the words ask for nothing that can be done
-abbrev pub AsksForNothing : List (List ℕ) → Type 0
-AsksForNothing words = (file : List ℕ) → AsksForRun words file → ⊥
+pub record AsksForNothing (words : List (List ℕ)) : Type 0 where
+  pub run : AsksForNoRun words
+  pub asm : AsksForNoAsm words
 
 -- the file that is fetched first
 abbrev pub file_of : Request → List ℕ
 file_of (Run file workers) = string_bytes file
+file_of (Asm file) = string_bytes file
 
--- how many workers there are
-abbrev pub workers_of : Request → ℕ
-workers_of (Run file workers) = workers
+-- the file is that of a class, and there is one worker
+pub record IsSerialRun (file : List ℕ) (workers : ℕ) : Type 0 where
+  pub of_class : IsClassFileName file
+  pub one_worker : workers ≡ 1
 
--- each value of the request is as the words would have it, and there is one worker
-pub record IsSerial (request : Request) : Type 0 where
-  pub of_class : IsClassFileName (file_of request)
-  pub one_worker : workers_of request ≡ 1
+-- each value of a run is as the words would have it, and there is one worker; any file may be assembled
+abbrev pub IsSerial : Request → Type 0
+IsSerial (Run file workers) = IsSerialRun (string_bytes file) workers
+IsSerial (Asm file) = Unit {0}
 
 abbrev pub texts : List (String Global) → List (List ℕ)
 texts words = map string_bytes words

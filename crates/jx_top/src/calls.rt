@@ -1,11 +1,14 @@
 //! The public calls.
 ghost use Rattle.std.specs.Prelude.{◌≡◌, ◌≢◌, ◌↔◌, ℕ, List};
 ghost use Rattle.jx_base.specs.Faults.{HasRisen};
+ghost use Rattle.jx_top.specs.Assembling.{HasAsmCause, HasShortText, IsDecidedBy, PutsClassFile};
 ghost use Rattle.jx_top.specs.Headline.{Prints};
 ghost use Rattle.jx_top.specs.Outcome.{HasCause, IsAccepted, IsDoneOrOutOfMemory, IsRefused, IsRefusedOrOutOfMemory};
 ghost use Rattle.jx_top.specs.declared.defect.Defect.{Defect};
-ghost use Rattle.jx_top.specs.Words.{IsSerial, AsksForRun, AsksForNothing, texts, file_of};
+ghost use Rattle.jx_top.specs.Requests.{PutsFor, HasCauseFor};
+ghost use Rattle.jx_top.specs.Words.{IsSerial, AsksForRun, AsksForAsm, AsksForNothing, texts};
 
+use crate::assembling::assemble_class;
 use crate::request::Request;
 use crate::run::run_class;
 use crate::status::Status;
@@ -23,15 +26,17 @@ pub fn jx_serial<L: Shelf, K: Sink>(
     sink: &mut K,
 ) -> Status
     requires { IsSerial request.now }
-    ensures prints { Prints (L.told shelf.old) (file_of request.now) (K.told sink.old) (K.told sink.new) result }
-    ensures cause { HasCause (L.told shelf.old) (file_of request.now) result }
+    ensures prints { PutsFor (L.told shelf.old) request.now (K.told sink.old) (K.told sink.new) result }
+    ensures cause { HasCauseFor (L.told shelf.old) request.now result }
     ensures shelf { result ≡ Status.ShelfFault → HasRisen (L.faults shelf.old) (L.faults shelf.new) }
     ensures sink { result ≡ Status.SinkFault → HasRisen (K.faults sink.old) (K.faults sink.new) }
 {
-    let file = request.file();
-    match class_of(file) {
-        Some(name) => run_class(alloc, file, name, shelf, sink),
-        None => unreachable!(),
+    match request {
+        Request::Run { file, workers: _ } => match class_of(file.as_str()) {
+            Some(name) => run_class(alloc, file.as_str(), name, shelf, sink),
+            None => unreachable!(),
+        },
+        Request::Asm { file } => assemble_class(alloc, file.as_str(), shelf, sink),
     }
 }
 
@@ -46,6 +51,9 @@ pub fn jx_main<R: Threads + Wait + Sync, L: Shelf, K: Sink, G: Gate + Sync>(
 ) -> Status
     // The headline: what is put is the audit of a complete legal history of the system that the files give.
     ensures prints { (file : List ℕ) → AsksForRun (texts words.now) file → Prints (L.told shelf.old) file (K.told sink.old) (K.told sink.new) result }
+
+    // Of an assembly it is the class file that the text says.
+    ensures puts { (file : List ℕ) → AsksForAsm (texts words.now) file → PutsClassFile (L.told shelf.old) file (K.told sink.old) (K.told sink.new) result }
     ensures nothing { result ≡ Status.Usage → K.told sink.new ≡ K.told sink.old }
 
     // Where nothing of the outside fails and the file's class is run by now, the work is done, or memory was refused.
@@ -57,9 +65,14 @@ pub fn jx_main<R: Threads + Wait + Sync, L: Shelf, K: Sink, G: Gate + Sync>(
     ensures refuses { (file : List ℕ) (d : Defect) → AsksForRun (texts words.now) file → IsRefused (L.told shelf.old) file d
         → (HasRisen (L.faults shelf.old) (L.faults shelf.new) → ⊥) → IsRefusedOrOutOfMemory d result }
 
+    // Where the shelf doesn't fail and the file is there, its text decides how an assembly ends, but for memory and the sink.
+    ensures assembles { (file : List ℕ) (text : List ℕ) → AsksForAsm (texts words.now) file → HasShortText (L.told shelf.old) file text
+        → (HasRisen (L.faults shelf.old) (L.faults shelf.new) → ⊥) → IsDecidedBy text result }
+
     // The causes of the other statuses.
     ensures usage { (result ≡ Status.Usage) ↔ AsksForNothing (texts words.now) }
     ensures cause { (file : List ℕ) → AsksForRun (texts words.now) file → HasCause (L.told shelf.old) file result }
+    ensures cause_of_asm { (file : List ℕ) → AsksForAsm (texts words.now) file → HasAsmCause (L.told shelf.old) file result }
     ensures shelf { result ≡ Status.ShelfFault → HasRisen (L.faults shelf.old) (L.faults shelf.new) }
     ensures sink { result ≡ Status.SinkFault → HasRisen (K.faults sink.old) (K.faults sink.new) }
 {

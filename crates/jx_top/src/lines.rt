@@ -1,11 +1,13 @@
 //! What is said of a status.
 ghost use Rattle.std.specs.Prelude.{◌≡◌};
 ghost use Rattle.jx_base.specs.Puts.{Puts};
-ghost use Rattle.jx_top.specs.Lines.{status_text, status_number, class_kind_number, code_kind_number, kind_number};
+ghost use Rattle.jx_top.specs.Lines.{status_text, status_number, class_kind_number, code_kind_number, kind_number, asm_kind_number};
 
 use crate::defect::DefectKind;
 use crate::status::Status;
-use audit_text::{Piece, put_line};
+use audit_text::Piece::{Number, Plain};
+use audit_text::put_line;
+use class_asm::AsmKind;
 use jx_base::{ClassKind, CodeKind, Failed, Sink};
 
 /// The number that the program ends with.
@@ -19,6 +21,7 @@ pub fn status_number(status: &Status) -> u8
         Status::Missing(_) => 4,
         Status::BadClass(_, _) => 6,
         Status::SinkFault => 8,
+        Status::BadAsm(_) => 10,
         Status::TooLong(_) => 17,
         Status::OutOfMemory => 70,
         Status::NotYet(_) => 99,
@@ -64,6 +67,19 @@ fn kind_number(kind: DefectKind) -> u8
     }
 }
 
+fn asm_kind_number(kind: AsmKind) -> u8
+    ensures { result ≡ asm_kind_number kind }
+{
+    match kind {
+        AsmKind::Word => 1,
+        AsmKind::Operand => 2,
+        AsmKind::Label => 3,
+        AsmKind::Twice => 4,
+        AsmKind::Place => 5,
+        AsmKind::Limit => 6,
+    }
+}
+
 /// Puts the line of the status; Done has none.
 #[tactic(auto, unfolding(audit_text::specs::Pieces::piece_text))]
 pub fn status_line<K: Sink>(status: &Status, sink: &mut K) -> Result<(), Failed>
@@ -71,32 +87,32 @@ pub fn status_line<K: Sink>(status: &Status, sink: &mut K) -> Result<(), Failed>
 {
     match status {
         Status::Done => Ok(()),
-        Status::Usage => put_line(&[Piece::Plain("jx: usage")], sink),
-        Status::ShelfFault => put_line(&[Piece::Plain("jx: shelf fault")], sink),
-        Status::Missing(name) => put_line(
-            &[Piece::Plain("jx: missing"), Piece::Plain(name.as_str())],
-            sink,
-        ),
-        Status::TooLong(name) => put_line(
-            &[Piece::Plain("jx: too long"), Piece::Plain(name.as_str())],
-            sink,
-        ),
+        Status::Usage => put_line(&[Plain("jx: usage")], sink),
+        Status::ShelfFault => put_line(&[Plain("jx: shelf fault")], sink),
+        Status::Missing(name) => put_line(&[Plain("jx: missing"), Plain(name.as_str())], sink),
+        Status::TooLong(name) => put_line(&[Plain("jx: too long"), Plain(name.as_str())], sink),
         Status::BadClass(name, defect) => put_line(
             &[
-                Piece::Plain("jx: bad class"),
-                Piece::Plain(name.as_str()),
-                Piece::Plain("at"),
-                Piece::Number(defect.at),
-                Piece::Plain("kind"),
-                Piece::Number(u64::from(kind_number(defect.kind))),
+                Plain("jx: bad class"),
+                Plain(name.as_str()),
+                Plain("at"),
+                Number(defect.at),
+                Plain("kind"),
+                Number(u64::from(kind_number(defect.kind))),
             ],
             sink,
         ),
-        Status::SinkFault => put_line(&[Piece::Plain("jx: sink fault")], sink),
-        Status::NotYet(name) => put_line(
-            &[Piece::Plain("jx: not yet"), Piece::Plain(name.as_str())],
+        Status::BadAsm(fault) => put_line(
+            &[
+                Plain("jx: bad text line"),
+                Number(u64::from(fault.line)),
+                Plain("kind"),
+                Number(u64::from(asm_kind_number(fault.kind))),
+            ],
             sink,
         ),
-        Status::OutOfMemory => put_line(&[Piece::Plain("jx: out of memory")], sink),
+        Status::SinkFault => put_line(&[Plain("jx: sink fault")], sink),
+        Status::NotYet(name) => put_line(&[Plain("jx: not yet"), Plain(name.as_str())], sink),
+        Status::OutOfMemory => put_line(&[Plain("jx: out of memory")], sink),
     }
 }

@@ -3,10 +3,12 @@ ghost use Rattle.std.specs.Prelude.{◌≡◌};
 ghost use Rattle.jx_top.specs.Words.{file_of};
 
 /// What a command asks for. `Run` prints the audit of the system that the file describes; a file
-/// `X.class` is a system of that one class. There are 1 to 16 workers.
+/// `X.class` is a system of that one class. There are 1 to 16 workers. `Asm` puts the class file that
+/// the assembler text in the file says.
 #[derive(Drop)]
 pub enum Request {
     Run { file: String, workers: u8 },
+    Asm { file: String },
 }
 
 impl Request {
@@ -14,7 +16,8 @@ impl Request {
     pub fn file(&self) -> &str
         ensures { result.now ≡ file_of self.now }
     {
-        let Request::Run { file, workers: _ } = self;
-        file.as_str()
+        match self {
+            Request::Run { file, workers: _ } | Request::Asm { file } => file.as_str(),
+        }
     }
 }

@@ -1,51 +1,26 @@
 //! The run of a class.
-ghost use Rattle.std.specs.Prelude.{◌≡◌, ◌≢◌, ◌↔◌, IsTrue, ◌≤◌, ◌^◌, length, ℕ, List, Result, IsErrOf, IfOk, MatchResult, OnErr, Some, string_bytes, is_some};
+ghost use Rattle.std.specs.Prelude.{◌≡◌, ◌≢◌, ◌↔◌, IsTrue, ◌≤◌, ◌^◌, length, ℕ, List, Result, IsErrOf, IfOk, MatchResult, OnErr, Some, is_some};
 ghost use Rattle.jx_base.specs.Faults.{HasRisen};
-ghost use Rattle.jx_base.specs.Files.{longest_file};
 ghost use Rattle.first_class.specs.FirstClass.{first_bytes, first_class};
 ghost use Rattle.jx_top.specs.Classes.{IsReadClass};
 ghost use Rattle.jx_top.specs.FirstRun.{own_name};
 ghost use Rattle.jx_top.specs.FirstSystem.{first_history};
 ghost use Rattle.jx_top.specs.Words.{IsFileOf};
 ghost use Rattle.jx_top.specs.Headline.{Prints};
-ghost use Rattle.jx_top.specs.Outcome.{FindsBytes, HasCause, HoldsClass, FindsClass, IsKnownClass};
+ghost use Rattle.jx_top.specs.Outcome.{HasCause, HoldsClass, FindsClass, IsKnownClass};
 ghost use Rattle.jx_top.specs.Running.{IsRunOf, PrintsClass};
 
 use crate::class_error::ClassError;
 use crate::classes::read_whole;
+use crate::fetching::{copy_of, fetch_bytes};
 use crate::first_run::{one_print, own_name, printed_text};
 use crate::link::link;
 use crate::status::Status;
 use audit_text::render;
 use first_class::FIRST_CLASS;
-use jx_base::{
-    ClassFile, Failed, Fetch, History, Listed, OutOfMemory, Shelf, Sink, System, text_of,
-};
+use jx_base::{ClassFile, Failed, History, Listed, OutOfMemory, Shelf, Sink, System, text_of};
 use std::alloc::Global;
 use system_text::one_class;
-
-fn copy_of(alloc: Global, text: &str) -> Result<String, Status>
-    ensures { MatchResult result (λ copy. string_bytes copy ≡ text.now) (λ outcome. outcome ≡ Status.OutOfMemory) }
-{
-    String::from_str(alloc, text).map_err(|_| Status::OutOfMemory)
-}
-
-/// The bytes of the file.
-fn fetch_bytes<L: Shelf>(alloc: Global, file: &str, shelf: &mut L) -> Result<Vec<u8>, Status>
-    ensures bytes { FindsBytes (L.told shelf.old) file.now result }
-    ensures short { IfOk result (λ bytes. length bytes.items ≤ longest_file) }
-    ensures same { L.told shelf.new ≡ L.told shelf.old }
-    ensures later { L.faults shelf.old ≤ L.faults shelf.new }
-    ensures cause { IsErrOf result Status.ShelfFault → HasRisen (L.faults shelf.old) (L.faults shelf.new) }
-{
-    match shelf.fetch(alloc, file) {
-        Fetch::Got(bytes) => Ok(bytes),
-        Fetch::NotThere => Err(Status::Missing(copy_of(alloc, file)?)),
-        Fetch::TooLong => Err(Status::TooLong(copy_of(alloc, file)?)),
-        Fetch::Failed => Err(Status::ShelfFault),
-        Fetch::OutOfMemory => Err(Status::OutOfMemory),
-    }
-}
 
 /// Whether the class has this name by its own file.
 fn is_named(alloc: Global, file: &ClassFile, name: &str) -> Result<bool, Status>

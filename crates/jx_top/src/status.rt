@@ -1,9 +1,10 @@
 //! How a command ends.
 
 use crate::defect::Defect;
+use class_asm::AsmFault;
 
 /// How a command ended. `Missing` and `TooLong` carry the name of a file, `BadClass` and `NotYet` that of
-/// a class.
+/// a class, `BadAsm` the first faulty line of a text.
 #[derive(Drop)]
 pub enum Status {
     Done,
@@ -12,6 +13,7 @@ pub enum Status {
     Missing(String),
     TooLong(String),
     BadClass(String, Defect),
+    BadAsm(AsmFault),
     SinkFault,
     NotYet(String),
     OutOfMemory,

@@ -2,6 +2,8 @@
 #![tactic(auto)]
 
 #[cfg(test)]
+mod assemblies;
+#[cfg(test)]
 mod bad_classes;
 #[cfg(test)]
 mod first_run;

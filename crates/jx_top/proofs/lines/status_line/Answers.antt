@@ -22,3 +22,9 @@ unfolding piece_text
 returns-in-BadClass g c =
     let put = rw (c.as_str-in-BadClass.ensures.value, c.from.ensures, c.kind_number.ensures) at c.put_line-in-BadClass.ensures in
     rw c.in-BadClass.is put
+
+pub returns-in-BadAsm : goal.returns-in-BadAsm
+unfolding piece_text
+returns-in-BadAsm g c =
+    let put = rw (c.from-in-BadAsm.ensures, c.from-in-BadAsm-2.ensures, c.asm_kind_number.ensures) at c.put_line-in-BadAsm.ensures in
+    rw c.in-BadAsm.is put

@@ -1,0 +1,3 @@
+mod FarLines
+mod LineByLine
+mod MarkLaws

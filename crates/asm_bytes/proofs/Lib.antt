@@ -1,0 +1,5 @@
+mod Appended
+mod CodeOn
+mod Alike
+mod MethodsOn
+mod Joined

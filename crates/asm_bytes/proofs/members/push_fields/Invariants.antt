@@ -1,0 +1,6 @@
+use Rattle.asm_bytes.specs.Files.{field_bytes}
+use Rattle.asm_bytes.proofs.Appended.{Put}
+use Rattle.asm_bytes.proofs.members.push_fields.Given as goal
+
+abbrev pub invariant-loop-line : goal.invariant-loop-line
+invariant-loop-line l = Put (field_bytes l.pool) l.lines l.line-index l.bytes.items l.initial.bytes.items

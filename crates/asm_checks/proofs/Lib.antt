@@ -1,0 +1,4 @@
+mod Bodies
+mod Following
+mod Lists
+mod Walk

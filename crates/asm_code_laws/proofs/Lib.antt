@@ -1,0 +1,9 @@
+mod Numbers
+mod Operands
+mod Said
+mod Instructions
+mod Indices
+mod Faultless
+mod Bodies
+mod Aims
+mod Places

@@ -1,0 +1,4 @@
+mod Same
+mod Numbered
+mod Texts
+mod Bytes

@@ -1,0 +1,6 @@
+//! Laws of the assembler.
+#![tactic(auto)]
+
+mod laws;
+
+pub use laws::assembled_classes;

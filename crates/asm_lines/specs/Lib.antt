@@ -1,0 +1,3 @@
+pub mod Lines
+pub mod Operands
+pub mod Readings

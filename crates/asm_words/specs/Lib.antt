@@ -1,0 +1,5 @@
+pub mod Words
+pub mod Numbers
+pub mod Quotes
+pub mod TextLaws
+pub mod Readings
