@@ -19,7 +19,8 @@ use Rattle.asm_bytes.specs.Files.{pc_of}
 use Rattle.asm_checks.specs.Faults.{target_labels}
 use Rattle.asm_code_laws.specs.Written.{operand_numbers, form_numbers, form_of, written_instr}
 use Rattle.asm_code_laws.proofs.Instructions.{from_so}
-use Rattle.asm_code_laws.proofs.Operands.{IsSo, so_if, so_mapped, so_any}
+use Rattle.asm_laws.proofs.Readable.{IsSo, so_if, so_mapped}
+use Rattle.asm_code_laws.proofs.Operands.{so_any}
 use Rattle.asm_code_laws.proofs.Said.{IsSaid}
 
 -- ---- wide instructions have no targets

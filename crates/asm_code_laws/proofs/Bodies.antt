@@ -1,12 +1,10 @@
 -- The code of a body is spelled by its bytes.
 use Rattle.std.proofs.Common.{◌≡◌, ◌∙◌, refl, sym, ap, subst, ℕ, suc, ◌+◌, ◌-◌, ◌^◌, ◌<◌, List, [], ◌∷◌, ◌++◌, Bool, true, false, Some, None, Option, Ok, length, length-append, append-nil, reverse, arith}
-use Rattle.std.specs.Prelude.{not, ◌||◌, nat_lt, option_map, if◌then◌else◌, flat_map, fold, unwrap_or}
+use Rattle.std.specs.Prelude.{not, ◌||◌, nat_lt, option_map, if◌then◌else◌, flat_map, unwrap_or}
 use Rattle.std.specs.List.{list_any, list_all, AllByRecursion}
 use Rattle.std.specs.Str.{bytes_eq}
 use Rattle.std.proofs.lemmas.Bool.{and_parts}
 use Rattle.std.proofs.lemmas.Bool.Decides.{nat_tests}
-use Rattle.std.proofs.lemmas.List.{length-replicate}
-use Rattle.std.proofs.lemmas.List.Concat.{length-flat_map}
 use Rattle.jx_base.specs.CodeGrammar.{BeginsWith, IsSpelledBy, instruction_part}
 use Rattle.asm_constants.specs.declared.content.Content.{Content}
 use Rattle.asm_constants.specs.Pools.{fits, index_of}
@@ -20,47 +18,26 @@ use Rattle.asm_lines.specs.declared.line.Operand.{Operand}
 use Rattle.asm_lines.specs.declared.line.Operand.TheVariants as operand
 use Rattle.asm_bodies.specs.Bodies.{Mark, body_of, ends, has_label, is_label, marks_of, marks_from, line_marks, mark_of, is_near, is_far_operand, is_far, first_far_from, first_far_in, first_far, or_else}
 use Rattle.asm_bodies.specs.Lines.{is_method}
-use Rattle.asm_bodies.specs.Needs.{pool_of, line_length, operand_length, opcode_length, instruction_length}
-use Rattle.asm_bytes.specs.Files.{operand_bytes, opcode_bytes, instruction_bytes, line_bytes, code_from, pc_of, file_bytes}
+use Rattle.asm_bodies.specs.Needs.{pool_of, line_length, instruction_length}
+use Rattle.asm_bytes.specs.Files.{instruction_bytes, line_bytes, code_from, pc_of, file_bytes}
 use Rattle.asm_checks.specs.Faults.{is_index_over, has_index_over, target_labels, used_labels, first_fault}
 use Rattle.class_asm.specs.Assembly.{bytes_or_far, assembly_with, assembly, IsAssembled}
 use Rattle.asm_laws.proofs.Constants.{index_small}
+use Rattle.asm_laws.proofs.Counts.{line_bytes_length}
+use Rattle.asm_laws.proofs.Soundness.{is_so, neither, all_fit, no_fault as no_fault_sound}
+use Rattle.asm_laws.proofs.Whole.{no_constants}
 use Rattle.asm_code_laws.specs.CodeLaws.{HasMethod, text_pool, written_code}
 use Rattle.asm_code_laws.specs.Written.{written_instr, line_instrs, instrs_from}
 use Rattle.asm_code_laws.proofs.Operands.{IsGood}
 use Rattle.asm_code_laws.proofs.Instructions.{instruction_spelled}
 use Rattle.asm_code_laws.proofs.Said.{IsSaidLine, meanings_said}
-use Rattle.asm_code_laws.proofs.Indices.{neither}
-use Rattle.asm_code_laws.proofs.Faultless.{is_so, AreFine, AreInBody, no_fault, all_fit, all_small, body_lines, fine_behind}
+use Rattle.asm_code_laws.proofs.Faultless.{AreFine, AreInBody, no_fault, all_small, body_lines, fine_behind}
 
 -- ---- lengths
 
-operand_bytes_length : (pool : List Content) (marks : List Mark) (pc : ℕ) (o : Operand) → length (operand_bytes pool marks pc o) ≡ operand_length pc o
-unfolding operand_bytes operand_length
-operand_bytes_length pool marks pc (operand.Byte n) = refl
-operand_bytes_length pool marks pc (operand.Short n) = refl
-operand_bytes_length pool marks pc (operand.Int z) = refl
-operand_bytes_length pool marks pc (operand.ByteIndex c) = refl
-operand_bytes_length pool marks pc (operand.Index c) = refl
-operand_bytes_length pool marks pc (operand.Target label) = refl
-operand_bytes_length pool marks pc (operand.FarTarget label) = refl
-operand_bytes_length pool marks pc operand.Padding = length-replicate _ 0
-
-summed_alike : {X : Type 0} (f g : X → ℕ) → ((x : X) → f x ≡ g x) → (n : ℕ) (xs : List X) → fold (λ a x. a + f x) n xs ≡ fold (λ a x. a + g x) n xs
-summed_alike f g h n [] = refl
-summed_alike f g h n (x ∷ xs) = ap (λ m. fold (λ a x. a + f x) (n + m) xs) (h x) ∙ summed_alike f g h (n + g x) xs
-
-opcode_bytes_length : (i : Instruction) → length (opcode_bytes i) ≡ opcode_length i.wide
-unfolding opcode_bytes opcode_length
-opcode_bytes_length i = elim i.wide as (λ w. length (if w then 0xc4 ∷ i.opcode ∷ [] else i.opcode ∷ []) ≡ (if w then 2 else 1)) [ true ↦ refl | false ↦ refl ]
-
 pub instruction_bytes_length : (pool : List Content) (marks : List Mark) (pc : ℕ) (i : Instruction) → length (instruction_bytes pool marks pc i) ≡ instruction_length pc i
-unfolding instruction_bytes instruction_length
-instruction_bytes_length pool marks pc i =
-    length-append (opcode_bytes i) (flat_map (operand_bytes pool marks pc) i.operands)
-    ∙ (ap (λ n. n + length (flat_map (operand_bytes pool marks pc) i.operands)) (opcode_bytes_length i)
-    ∙ ap (λ n. opcode_length i.wide + n) (length-flat_map (operand_bytes pool marks pc) i.operands
-    ∙ summed_alike (λ o. length (operand_bytes pool marks pc o)) (operand_length pc) (operand_bytes_length pool marks pc) 0 i.operands))
+unfolding line_bytes line_length
+instruction_bytes_length pool marks pc i = line_bytes_length pool marks pc (line.Instruction i)
 
 -- ---- one instruction behind the other
 
@@ -216,10 +193,6 @@ unfolding body_of
 all_of_body P [] h = tt
 all_of_body P (l ∷ lines) h = elim (ends l) as (λ b. AllByRecursion P (if b then [] else l ∷ body_of lines)) [ true ↦ tt | false ↦ (h.0, all_of_body P lines h.1) ]
 
-no_constants : fits (pool_of []) ≡ true
-unfolding fits pool_of
-no_constants = refl
-
 -- what the body of a method of an assembled text is
 pub record IsWritten (text : List ℕ) (body : List Line) : Type 0 where
   pub said : AllByRecursion IsSaidLine body
@@ -236,7 +209,7 @@ body_written text bytes after e has =
     let a = assembled lines (first_fault [] lines) bytes e in
     let fine : AreFine [] lines = no_fault [] lines a.0 in
     let whole : reverse lines ++ [] ≡ reverse lines = append-nil (reverse lines) in
-    let fit : fits pool ≡ true = sym (ap (λ (ls : List Line). fits (pool_of ls)) whole) ∙ all_fit [] lines no_constants fine in
+    let fit : fits pool ≡ true = sym (ap (λ (ls : List Line). fits (pool_of ls)) whole) ∙ all_fit [] lines no_constants (no_fault_sound [] lines a.0) in
     let small : AllByRecursion (λ l. has_index_over pool l ≡ false) lines = subst (λ (ls : List Line). AllByRecursion (λ l. has_index_over (pool_of ls) l ≡ false) lines) whole (all_small [] lines fine) in
     let split : lines ≡ has.0 ++ method ∷ after = has.4 in
     let small_indices : (c : Content) → index_of pool c < 2 ^ 16 = λ c. index_small pool c fit in

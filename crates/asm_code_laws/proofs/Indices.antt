@@ -1,5 +1,5 @@
 -- A constant keeps its index when constants are added.
-use Rattle.std.proofs.Common.{◌≡◌, ◌∙◌, refl, ℕ, ◌+◌, List, [], ◌∷◌, ◌++◌, Bool, true, false}
+use Rattle.std.proofs.Common.{◌≡◌, ◌∙◌, refl, ℕ, ◌+◌, List, [], ◌∷◌, ◌++◌, true, false}
 use Rattle.std.specs.Prelude.{◌||◌, nat_lt, flat_map, if◌then◌else◌}
 use Rattle.std.specs.List.{list_any, list_all}
 use Rattle.std.proofs.lemmas.Bool.{and_parts, or_left}
@@ -13,6 +13,7 @@ use Rattle.asm_lines.specs.declared.line.Operand.{Operand}
 use Rattle.asm_lines.specs.declared.line.Operand.TheVariants as operand
 use Rattle.asm_bodies.specs.Needs.{operand_contents, line_contents, with_all_needed, pool_of}
 use Rattle.asm_checks.specs.Faults.{is_index_over, has_index_over}
+use Rattle.asm_laws.proofs.Soundness.{neither}
 
 -- each constant of a pool is in another one, at the same index
 abbrev Keeps : List Content → List Content → Type 0
@@ -59,11 +60,6 @@ unfolding pool_of
 kept_later [] past = kept_itself (pool_of past)
 kept_later (l ∷ later) past =
     kept_further (pool_of past) (pool_of (later ++ past)) (with_all_needed (pool_of (later ++ past)) (line_contents l)) (kept_later later past) (kept_with_all_needed (pool_of (later ++ past)) (line_contents l))
-
--- of two tests that do not pass together, none passes
-pub neither : (a b : Bool) → (a || b) ≡ false → (a ≡ false) × (b ≡ false)
-neither true b e = absurd (cc)
-neither false b e = (refl, e)
 
 operands_later : (pool more : List Content) → Keeps pool more → (operands : List Operand) → list_all (has_content pool) (flat_map operand_contents operands) ≡ true
     → list_any (is_index_over pool) operands ≡ false → list_any (is_index_over more) operands ≡ false

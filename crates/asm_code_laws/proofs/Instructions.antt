@@ -16,7 +16,8 @@ use Rattle.asm_bodies.specs.Bodies.{Mark}
 use Rattle.asm_bytes.specs.Files.{operand_bytes, opcode_bytes, instruction_bytes}
 use Rattle.asm_code_laws.specs.Written.{form_numbers, form_of, written_instr}
 use Rattle.asm_code_laws.proofs.Numbers.{byte_spelled}
-use Rattle.asm_code_laws.proofs.Operands.{IsSo, IsGood, IsRead, operands_so}
+use Rattle.asm_laws.proofs.Readable.{IsSo}
+use Rattle.asm_code_laws.proofs.Operands.{IsGood, IsRead, operands_so}
 use Rattle.asm_lines.specs.declared.line.Instruction.{Instruction}
 use Rattle.asm_code_laws.proofs.Said.{IsSaid}
 

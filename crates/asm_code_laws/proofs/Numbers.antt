@@ -8,6 +8,7 @@ use Rattle.jx_base.specs.Parts.{number}
 use Rattle.asm_bodies.specs.Bodies.{is_near}
 use Rattle.asm_bytes.specs.Files.{distance}
 use Rattle.asm_laws.proofs.Numbers.{length-to_be_bytes, number_spelled}
+use Rattle.asm_laws.proofs.Spelled.{bits_32}
 
 -- a number that is too wide is spelled without what stands above
 low_16 : (n : ℕ) → from_be_bytes w16 (to_be_bytes w16 n) ≡ n % 65536
@@ -55,13 +56,10 @@ unsigned_8 z l r = grind (arith, ints)
 pub unsigned_16 : (z : ℤ) → int_le (pos 0) z ≡ true → int_le z (pos 65535) ≡ true → cast_unsigned w16 z < 2 ^ 16
 unsigned_16 z l r = grind (arith, ints)
 
-pub unsigned_32 : (z : ℤ) → FitsSigned w32 z → cast_unsigned w32 z < 2 ^ 32
-unsigned_32 z h = omega (arith, ints)
-
 -- a number with a sign, in two's complement
 pub int_spelled : {F : Type 0} (f : F) (z : ℤ) (rest : List ℕ) → FitsSigned w32 z
     → (number f w32).spells (to_be_bytes w32 (cast_unsigned w32 z) ++ rest) (cast_unsigned w32 z) rest
-int_spelled f z rest h = number_spelled f w32 (cast_unsigned w32 z) rest (unsigned_32 z h)
+int_spelled f z rest h = number_spelled f w32 (cast_unsigned w32 z) rest (bits_32 z h)
 
 pub back_32 : (z : ℤ) → FitsSigned w32 z → cast_signed w32 (cast_unsigned w32 z) ≡ z
 back_32 z h = to_z-of_z w32 z h

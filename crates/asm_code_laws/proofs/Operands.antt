@@ -28,20 +28,9 @@ use Rattle.asm_bodies.specs.Bodies.{Mark, is_near}
 use Rattle.asm_bytes.specs.Files.{pc_of, distance, operand_bytes, four_bytes}
 use Rattle.asm_code_laws.specs.Written.{operand_numbers, signed_numbers, form_numbers}
 use Rattle.asm_laws.proofs.Numbers.{number_spelled}
+use Rattle.asm_laws.proofs.Operands.{fits_int, int_so}
+use Rattle.asm_laws.proofs.Readable.{IsSo, so_if, so_mapped}
 use Rattle.asm_code_laws.proofs.Numbers.{cut_16, cut_32, near_place, far_place, byte_spelled, unsigned_8, unsigned_16, int_spelled, back_32}
-
--- what is said, where something is, is so
-abbrev pub IsSo : {X : Type 0} → (X → Type 0) → Option X → Type 0
-IsSo P None = Unit {0}
-IsSo P (Some x) = P x
-
-pub so_if : {X : Type 0} (P : X → Type 0) (b : Bool) (o p : Option X) → IsSo P o → IsSo P p → IsSo P (if b then o else p)
-so_if P true o p h k = h
-so_if P false o p h k = k
-
-pub so_mapped : {X Y : Type 0} (P : X → Type 0) (Q : Y → Type 0) (f : X → Y) (o : Option X) → ((x : X) → P x → Q (f x)) → IsSo P o → IsSo Q (option_map f o)
-so_mapped P Q f None h k = tt
-so_mapped P Q f (Some x) h k = h x k
 
 pub so_any : {X : Type 0} (o : Option X) → IsSo (λ (x : X). Unit {0}) o
 so_any None = tt
@@ -55,13 +44,6 @@ within_so P low high (Some z) h = elim (int_le low z) as (λ b. int_le low z ≡
   | true ↦ λ l. elim (int_le z high) as (λ b. int_le z high ≡ b → IsSo P (if b then Some z else None)) [ true ↦ λ r. h z refl l r | false ↦ λ r. tt ] refl
   | false ↦ λ l. tt
 ] refl
-
-fits_int : (z : ℤ) → int_le least_int z ≡ true → int_le z greatest_int ≡ true → FitsSigned w32 z
-fits_int z l r = grind (arith, ints)
-
-int_so : (word : List ℕ) → IsSo (FitsSigned w32) (int_of word)
-unfolding int_of
-int_so word = within_so (FitsSigned w32) least_int greatest_int (number_of word) (λ z e. fits_int z)
 
 -- operands of one number, in a range
 shaped : (P : List Operand → Type 0) (low high : ℤ) (o : ℤ → Operand) (words : List (List ℕ)) → ((z : ℤ) → int_le low z ≡ true → int_le z high ≡ true → P (o z ∷ []))

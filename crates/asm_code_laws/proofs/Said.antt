@@ -18,7 +18,8 @@ use Rattle.asm_lines.specs.Lines.{opcode_named, with_operands, wide_instruction,
 use Rattle.asm_lines.specs.Operands.{is_name, operands_of}
 use Rattle.asm_lines.specs.declared.line.Instruction.{Instruction}
 use Rattle.asm_code_laws.specs.Written.{form_of}
-use Rattle.asm_code_laws.proofs.Operands.{IsSo, so_if, so_mapped, so_any}
+use Rattle.asm_laws.proofs.Readable.{IsSo, so_if, so_mapped}
+use Rattle.asm_code_laws.proofs.Operands.{so_any}
 
 count_of_opcodes : length opcodes ≡ 202
 unfolding constants loads stores stack_forms arithmetic conversions comparisons control references extended opcodes

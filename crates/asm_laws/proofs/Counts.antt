@@ -57,7 +57,7 @@ opcode_bytes_length : (i : Instruction) → length (opcode_bytes i) ≡ opcode_l
 unfolding opcode_bytes opcode_length
 opcode_bytes_length i = elim i.wide as (λ w. length (if w then 0xc4 ∷ i.opcode ∷ [] else i.opcode ∷ []) ≡ (if w then 2 else 1)) [ true ↦ refl | false ↦ refl ]
 
-line_bytes_length : (pool : List Content) (marks : List Mark) (pc : ℕ) (l : Line) → length (line_bytes pool marks pc l) ≡ line_length pc l
+pub line_bytes_length : (pool : List Content) (marks : List Mark) (pc : ℕ) (l : Line) → length (line_bytes pool marks pc l) ≡ line_length pc l
 unfolding line_bytes line_length instruction_bytes instruction_length
 line_bytes_length pool marks pc (line.Instruction i) =
     length-append (opcode_bytes i) (flat_map (operand_bytes pool marks pc) i.operands)

@@ -20,7 +20,7 @@ use Rattle.asm_laws.proofs.Soundness.{IsSoundLine, AreSound}
 -- ---- which lines can't stand in a body
 
 -- whether a line stands outside of bodies
-unfoldable is_outside : Line → Bool
+unfoldable pub is_outside : Line → Bool
 is_outside (line.Class flags name super) = true
 is_outside (line.Implements name) = true
 is_outside (line.Field m) = true
@@ -50,7 +50,7 @@ unfolding is_outside is_skipped
 said_outside line.Skipped h = absurd (cc)
 said_outside _ h = refl
 
-not_in_body : (past body : List Line) (l : Line) → open_body past ≡ Some body → is_in_place past l ≡ true → is_outside l ≡ true → ⊥
+pub not_in_body : (past body : List Line) (l : Line) → open_body past ≡ Some body → is_in_place past l ≡ true → is_outside l ≡ true → ⊥
 unfolding is_in_place may_come_next
 not_in_body past body l e h o =
     let i = inside_last past body e in
@@ -67,15 +67,15 @@ record IsEnded (body : List Line) : Type 0 where
   few : count_of is_catch body ≤ 65535
 
 -- the lines of an open body, which aren't too many
-record IsWithin (body : List Line) : Type 0 where
-  short : pc_behind 0 body ≤ 65535
+pub record IsWithin (body : List Line) : Type 0 where
+  pub short : pc_behind 0 body ≤ 65535
   few : count_of is_catch body ≤ 65535
 
 open_lines : (past body : List Line) → open_body past ≡ Some body → body_behind past ≡ body
 unfolding body_behind lines_in
 open_lines past body e = ap lines_in e
 
-stays_open : (past body : List Line) (l : Line) → open_body past ≡ Some body → is_method l ≡ false → goes_on l ≡ true → open_body (l ∷ past) ≡ Some (body ++ l ∷ [])
+pub stays_open : (past body : List Line) (l : Line) → open_body past ≡ Some body → is_method l ≡ false → goes_on l ≡ true → open_body (l ∷ past) ≡ Some (body ++ l ∷ [])
 unfolding open_body
 stays_open past body l e m g = rw (m, g, e) refl
 
@@ -83,7 +83,7 @@ goes_further : (l : Line) (after : List Line) → ends l ≡ false → body_of (
 unfolding body_of
 goes_further l after e = rw e refl
 
-longer : (past body : List Line) (l : Line) → open_body past ≡ Some body → goes_on l ≡ true → IsSoundLine past l → IsWithin body → IsWithin (body ++ l ∷ [])
+pub longer : (past body : List Line) (l : Line) → open_body past ≡ Some body → goes_on l ≡ true → IsSoundLine past l → IsWithin body → IsWithin (body ++ l ∷ [])
 unfolding is_too_much counts_after line_length is_catch goes_on
 longer past body line.Skipped e g s w = let p = pc_last 0 body line.Skipped in let c = count_last is_catch body line.Skipped in record { short = omega (arith, w.short); few = omega (arith, w.few) }
 longer past body (line.Label name) e g s w = let p = pc_last 0 body (line.Label name) in let c = count_last is_catch body (line.Label name) in record { short = omega (arith, w.short); few = omega (arith, w.few) }
@@ -137,11 +137,11 @@ body_ends past body (l ∷ after) e w sound = absurd (not_in_body past body l e 
 
 -- ---- bodies of methods
 
-opened : (past : List Line) (m : Member) (max_stack max_locals : ℕ) → open_body (line.Method m max_stack max_locals ∷ past) ≡ Some []
+pub opened : (past : List Line) (m : Member) (max_stack max_locals : ℕ) → open_body (line.Method m max_stack max_locals ∷ past) ≡ Some []
 unfolding open_body is_method
 opened past m max_stack max_locals = refl
 
-nothing_read : IsWithin []
+pub nothing_read : IsWithin []
 unfolding pc_behind count_of
 nothing_read = record { short = omega arith; few = omega arith }
 

@@ -7,13 +7,16 @@ mod Members
 mod Repeated
 mod Codes
 mod Methods
-mod Counts
-mod Soundness
+pub mod Counts
+pub mod Soundness
 mod Orders
-mod Ended
+pub mod Ended
 mod Ranges
 mod Listed
-mod Whole
-mod Readable
-mod Operands
+mod Lawful
+mod Taken
+pub mod Whole
+mod Others
+pub mod Readable
+pub mod Operands
 mod Meanings

@@ -94,30 +94,25 @@ unfolding is_field field_bytes
 no_field pool (line.Field m) h = absurd (cc)
 no_field pool _ h = refl
 
-module _ (size : ℕ) (pool : List Content) (small : fits pool ≡ true) (interface : Bool) where
-  interface_spelled : (l : Line) → IsSaid pool interface l → is_implements l ≡ true → (rest : List ℕ)
+module _ (size : ℕ) (pool : List Content) (small : fits pool ≡ true) where
+  interface_spelled : (l : Line) → IsFound pool l → is_implements l ≡ true → (rest : List ℕ)
       → (x : List ℕ) × (interface_part size (table_of pool)).spells (interface_bytes pool l ++ rest) x rest
   unfolding is_implements interface_bytes interface_part line_contents
-  interface_spelled (line.Implements name) said is rest =
+  interface_spelled (line.Implements name) found is rest =
       let i : ℕ = index_of pool (content.Class name) in
-      (i ∷ [], (i, rest, class_spelled size pool small name rest (both (has_content pool (content.Class name)) _ said.found).0, (refl, refl)))
-  interface_spelled _ said is rest = absurd (cc)
+      (i ∷ [], (i, rest, class_spelled size pool small name rest (both (has_content pool (content.Class name)) _ found).0, (refl, refl)))
+  interface_spelled _ found is rest = absurd (cc)
 
-  a_field_spelled : (l : Line) → IsSaid pool interface l → is_field l ≡ true → (rest : List ℕ)
-      → (x : List Member) × (field_part size (table_of pool)).spells (field_bytes pool l ++ rest) x rest
-  unfolding is_field field_bytes line_contents is_taken
-  a_field_spelled (line.Field m) said is rest = field_spelled size pool small m rest said.found said.taken
-  a_field_spelled _ said is rest = absurd (cc)
-
-  pub heading_spelled : (lines : List Line) (c : HasClass lines) (rest : List ℕ) → AreSaid pool interface lines → count_of is_implements lines ≤ 65535
+  pub heading_spelled : (lines : List Line) (c : HasClass lines) (rest : List ℕ) → AllByRecursion (IsFound pool) lines → AllByRecursion IsRangedLine lines → count_of is_implements lines ≤ 65535
       → (x : Heading) × (x.flags ≡ c.flags) × (heading_part size (table_of pool)).spells
       (flat_map (heading_bytes pool) lines ++ (two_bytes (count_of is_implements lines) ++ (flat_map (interface_bytes pool) lines ++ rest))) x rest
   unfolding heading_part heading_bytes line_contents
-  heading_spelled lines c rest said few =
-      let class = at_split (IsSaid pool interface) c.before c.after (class_of c) (subst (AllByRecursion (IsSaid pool interface)) c.joined said) in
-      let n = both (has_content pool (content.Class c.name)) _ class.found in
+  heading_spelled lines c rest found in_range few =
+      let class = at_split (IsFound pool) c.before c.after (class_of c) (subst (AllByRecursion (IsFound pool)) c.joined found) in
+      let ranged = at_split IsRangedLine c.before c.after (class_of c) (subst (AllByRecursion IsRangedLine) c.joined in_range) in
+      let n = both (has_content pool (content.Class c.name)) _ class in
       let s = both (has_content pool (content.Class c.super)) _ n.1 in
-      let r = lines_spelled (interface_part size (table_of pool)) is_implements (interface_bytes pool) (IsSaid pool interface) interface_spelled (no_implements pool) lines rest said in
+      let r = lines_spelled (interface_part size (table_of pool)) is_implements (interface_bytes pool) (IsFound pool) interface_spelled (no_implements pool) lines rest found in
       let listed : List ℕ = flat_map (interface_bytes pool) lines ++ rest in
       let counted : List ℕ = two_bytes (count_of is_implements lines) ++ listed in
       let super : List ℕ = two_bytes (index_of pool (content.Class c.super)) ++ counted in
@@ -128,7 +123,7 @@ module _ (size : ℕ) (pool : List Content) (small : fits pool ≡ true) (interf
         subst (λ (front : List ℕ). (heading_part size (table_of pool)).spells (front ++ counted) x rest) (sym (one_heading pool lines c)) (
           c.flags,
           named,
-          number_spelled (cut_off size) w16 c.flags named class.ranged.0,
+          number_spelled (cut_off size) w16 c.flags named ranged.0,
           (
             index_of pool (content.Class c.name),
             super,
@@ -147,6 +142,13 @@ module _ (size : ℕ) (pool : List Content) (small : fits pool ≡ true) (interf
           ),
         ),
       )
+
+module _ (size : ℕ) (pool : List Content) (small : fits pool ≡ true) (interface : Bool) where
+  a_field_spelled : (l : Line) → IsSaid pool interface l → is_field l ≡ true → (rest : List ℕ)
+      → (x : List Member) × (field_part size (table_of pool)).spells (field_bytes pool l ++ rest) x rest
+  unfolding is_field field_bytes line_contents is_taken
+  a_field_spelled (line.Field m) said is rest = field_spelled size pool small m rest said.found said.taken
+  a_field_spelled _ said is rest = absurd (cc)
 
   pub fields_spelled : (lines : List Line) (rest : List ℕ) → AreSaid pool interface lines → count_of is_field lines ≤ 65535
       → (xs : List Member) × (fields_part size (table_of pool)).spells (two_bytes (count_of is_field lines) ++ (flat_map (field_bytes pool) lines ++ rest)) xs rest

@@ -38,13 +38,13 @@ within_so P low high (Some z) h = elim (int_le low z) as (λ b. int_le low z ≡
   | false ↦ λ l. tt
 ] refl
 
-fits_int : (z : ℤ) → int_le least_int z ≡ true → int_le z greatest_int ≡ true → FitsSigned w32 z
+pub fits_int : (z : ℤ) → int_le least_int z ≡ true → int_le z greatest_int ≡ true → FitsSigned w32 z
 fits_int z l r = grind (arith, ints)
 
 fits_long : (z : ℤ) → int_le (pos 0 -ℤ pos (2 ^ 63)) z ≡ true → int_le z (pos (2 ^ 63 - 1)) ≡ true → FitsSigned w64 z
 fits_long z l r = grind (arith, ints)
 
-int_so : (word : List ℕ) → IsSo (FitsSigned w32) (int_of word)
+pub int_so : (word : List ℕ) → IsSo (FitsSigned w32) (int_of word)
 unfolding int_of
 int_so word = within_so (FitsSigned w32) least_int greatest_int (number_of word) fits_int
 

@@ -27,23 +27,23 @@ AreSound past (l ∷ after) = IsSoundLine past l × AreSound (l ∷ past) after
 
 -- ---- what no fault says
 
-unless : {X : Type 0} (t : Bool) (k : X) (o : Option X) → (if t then Some k else o) ≡ None → (t ≡ false) × (o ≡ None)
+pub unless : {X : Type 0} (t : Bool) (k : X) (o : Option X) → (if t then Some k else o) ≡ None → (t ≡ false) × (o ≡ None)
 unless true k o e = absurd (cc)
 unless false k o e = (refl, e)
 
-own_none : {X : Type 0} (o p : Option X) → (if is_some o then o else p) ≡ None → (o ≡ None) × (p ≡ None)
+pub own_none : {X : Type 0} (o p : Option X) → (if is_some o then o else p) ≡ None → (o ≡ None) × (p ≡ None)
 own_none None p e = (refl, e)
 own_none (Some k) p e = absurd (cc)
 
-is_so : (b : Bool) → not b ≡ false → b ≡ true
+pub is_so : (b : Bool) → not b ≡ false → b ≡ true
 is_so true e = refl
 is_so false e = absurd (cc)
 
-neither : (a b : Bool) → (a || b) ≡ false → (a ≡ false) × (b ≡ false)
+pub neither : (a b : Bool) → (a || b) ≡ false → (a ≡ false) × (b ≡ false)
 neither true b e = absurd (cc)
 neither false b e = (refl, e)
 
-sound_line : (past : List Line) (l : Line) (after : List Line) → kind_at past l after ≡ None → IsSoundLine past l
+pub sound_line : (past : List Line) (l : Line) (after : List Line) → kind_at past l after ≡ None → IsSoundLine past l
 unfolding kind_at is_over
 sound_line past l after e =
     let a = own_none (own_fault l) _ e in
@@ -55,7 +55,7 @@ sound_line past l after e =
     let r = neither (not (fits (pool_of (l ∷ past)))) (is_too_much (counts_after past) l) q.0 in
     record { own = a.0; placed = is_so (is_in_place past l) p.0; fitting = is_so (fits (pool_of (l ∷ past))) r.0; within = r.1 }
 
-none_here : (n : ℕ) (o : Option AsmKind) (later : Option (ℕ × AsmKind)) → fault_or n o later ≡ None → (o ≡ None) × (later ≡ None)
+pub none_here : (n : ℕ) (o : Option AsmKind) (later : Option (ℕ × AsmKind)) → fault_or n o later ≡ None → (o ≡ None) × (later ≡ None)
 unfolding fault_or
 none_here n None later e = (refl, e)
 none_here n (Some k) later e = absurd (cc)
@@ -73,7 +73,7 @@ no_fault past (l ∷ after) e =
 
 -- ---- limits
 
-onto : (l : Line) (lines past : List Line) → reverse (l ∷ lines) ++ past ≡ reverse lines ++ (l ∷ past)
+pub onto : (l : Line) (lines past : List Line) → reverse (l ∷ lines) ++ past ≡ reverse lines ++ (l ∷ past)
 onto l lines past = ap (λ (front : List Line). front ++ past) (reverse-append (l ∷ []) lines) ∙ append_assoc (reverse lines) (l ∷ []) past
 
 pub all_fit : (past lines : List Line) → fits (pool_of past) ≡ true → AreSound past lines → fits (pool_of (reverse lines ++ past)) ≡ true

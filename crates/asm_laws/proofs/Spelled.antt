@@ -57,7 +57,7 @@ text_spelled size at units rest short ranged =
       ),
     )
 
-bits_32 : (z : ℤ) → FitsSigned w32 z → cast_unsigned w32 z < 2 ^ 32
+pub bits_32 : (z : ℤ) → FitsSigned w32 z → cast_unsigned w32 z < 2 ^ 32
 bits_32 z h = omega (arith, ints)
 
 bits_64 : (z : ℤ) → FitsSigned w64 z → cast_unsigned w64 z < 2 ^ 64

@@ -37,7 +37,7 @@ each_split : {X : Type 0} (P : X → Type 0) (whole : List X) → ((before after
 each_split P whole h front [] e = tt
 each_split P whole h front (x ∷ xs) e = (h front xs x e, each_split P whole h (front ++ x ∷ []) xs (e ∙ sym (append_assoc front (x ∷ []) xs)))
 
-all_found : (lines : List Line) → AllByRecursion (IsFound (pool_of (reverse lines))) lines
+pub all_found : (lines : List Line) → AllByRecursion (IsFound (pool_of (reverse lines))) lines
 all_found lines = each_split (IsFound (pool_of (reverse lines))) lines (in_pool lines) [] lines refl
 
 all_reversed : {X : Type 0} (P : X → Type 0) (xs : List X) → AllByRecursion P xs → AllByRecursion P (reverse xs)
@@ -56,7 +56,7 @@ all_said pool interface (l ∷ lines) f t r =
 grouped : (v c p h i j f g m n z : List ℕ) → v ++ (c ++ p) ++ h ++ i ++ j ++ f ++ g ++ m ++ n ++ z ≡ v ++ (c ++ (p ++ (h ++ (i ++ (j ++ (f ++ (g ++ (m ++ (n ++ z)))))))))
 grouped v c p h i j f g m n z = simp append_assoc
 
-regrouped : (pool : List Content) (lines : List Line) → file_with pool lines
+pub regrouped : (pool : List Content) (lines : List Line) → file_with pool lines
     ≡ version_bytes ++ (two_bytes (suc (sum_by places pool)) ++ (pool_bytes pool ++ (flat_map (heading_bytes pool) lines
     ++ (two_bytes (count_of is_implements lines) ++ (flat_map (interface_bytes pool) lines
     ++ (two_bytes (count_of is_field lines) ++ (flat_map (field_bytes pool) lines
@@ -66,7 +66,7 @@ regrouped pool lines =
     grouped version_bytes (two_bytes (suc (sum_by places pool))) (pool_bytes pool) (flat_map (heading_bytes pool) lines) (two_bytes (count_of is_implements lines))
     (flat_map (interface_bytes pool) lines) (two_bytes (count_of is_field lines)) (flat_map (field_bytes pool) lines) (two_bytes (count_of is_member lines)) (methods_bytes pool lines) (two_bytes 0)
 
-version_spelled : (size : ℕ) (rest : List ℕ) → (version_part size).spells (version_bytes ++ rest) (record { minor = 0; major = 52 }) rest
+pub version_spelled : (size : ℕ) (rest : List ℕ) → (version_part size).spells (version_bytes ++ rest) (record { minor = 0; major = 52 }) rest
 unfolding version_part version_bytes
 version_spelled size rest =
     let major : List ℕ = two_bytes 52 ++ rest in
@@ -94,17 +94,17 @@ version_spelled size rest =
 
 -- the whole file
 file_spelled : (size : ℕ) (pool : List Content) (lines : List Line) (c : HasClass lines) → fits pool ≡ true → IsClosed pool pool → AreRangedContents pool
-    → AreSaid pool (list_any begins_interface lines) lines → AreSound [] lines
+    → AllByRecursion (IsFound pool) lines → AllByRecursion IsRangedLine lines → AreSaid pool (list_any begins_interface lines) lines → AreSound [] lines
     → (file : ClassFile) × (class_file_part size).spells (file_with pool lines) file []
 unfolding class_file_part
-file_spelled size pool lines c fit complete in_range said sound =
+file_spelled size pool lines c fit complete in_range found ranged_lines said sound =
     let interface : Bool = list_any begins_interface lines in
     let none : List ℕ = two_bytes 0 in
     let methods : List ℕ = two_bytes (count_of is_member lines) ++ (methods_bytes pool lines ++ none) in
     let fields : List ℕ = two_bytes (count_of is_field lines) ++ (flat_map (field_bytes pool) lines ++ methods) in
     let heading : List ℕ = flat_map (heading_bytes pool) lines ++ (two_bytes (count_of is_implements lines) ++ (flat_map (interface_bytes pool) lines ++ fields)) in
     let constants : List ℕ = two_bytes (suc (sum_by places pool)) ++ (pool_bytes pool ++ heading) in
-    let h = heading_spelled size pool fit interface lines c fields said (few_interfaces lines sound) in
+    let h = heading_spelled size pool fit lines c fields found ranged_lines (few_interfaces lines sound) in
     let f = fields_spelled size pool fit interface lines methods said (few_fields lines sound) in
     let m = methods_spelled size pool fit interface lines none said sound (few_members lines sound) in
     let same : interface ≡ is_interface_flag h.0.flags = is_interface lines c ∙ sym (ap is_interface_flag h.1) in
@@ -173,24 +173,40 @@ unfolding assembly_with
 assembled lines None bytes e = (refl, near (first_far lines) (file_bytes lines) bytes e)
 assembled lines (Some found) bytes e = absurd (cc)
 
-none_said : last_said [] ≡ None
+pub none_said : last_said [] ≡ None
 unfolding last_said
 none_said = refl
 
-no_constants : fits (pool_of []) ≡ true
+pub no_constants : fits (pool_of []) ≡ true
 unfolding fits pool_of
 no_constants = refl
+
+-- what is so of lines that are assembled
+pub record AreAssembled (lines : List Line) (bytes : List ℕ) : Type 0 where
+  pub sound : AreSound [] lines
+  pub fit : fits (pool_of (reverse lines)) ≡ true
+  pub ranged_contents : AreRangedContents (pool_of (reverse lines))
+  pub made : file_with (pool_of (reverse lines)) lines ≡ bytes
+
+pub are_assembled : (lines : List Line) (bytes : List ℕ) → AllByRecursion IsRangedLine lines → assembly lines ≡ Ok bytes → AreAssembled lines bytes
+unfolding assembly file_bytes
+are_assembled lines bytes in_range e =
+    let k = assembled lines (first_fault [] lines) bytes e in
+    let sound = no_fault [] lines k.0 in
+    record {
+      sound = sound;
+      fit = ap (λ (ls : List Line). fits (pool_of ls)) (sym (append-nil (reverse lines))) ∙ all_fit [] lines no_constants sound;
+      ranged_contents = ranged (reverse lines) (all_reversed (λ l. AreRangedContents (line_contents l)) lines (all_contents_ranged lines in_range));
+      made = k.1;
+    }
 
 -- lines in range that are assembled, where a class file may have what each says
 pub class_file : (lines : List Line) (bytes : List ℕ) → AllByRecursion IsRangedLine lines → assembly lines ≡ Ok bytes → are_taken lines ≡ true
     → (file : ClassFile) × IsClassFile bytes file
-unfolding assembly are_taken file_bytes
+unfolding are_taken
 class_file lines bytes in_range e taken =
-    let k = assembled lines (first_fault [] lines) bytes e in
-    let sound = no_fault [] lines k.0 in
+    let a = are_assembled lines bytes in_range e in
     let pool : List Content = pool_of (reverse lines) in
-    let fit : fits pool ≡ true = ap (λ (ls : List Line). fits (pool_of ls)) (sym (append-nil (reverse lines))) ∙ all_fit [] lines no_constants sound in
     let said = all_said pool (list_any begins_interface lines) lines (all_found lines) taken in_range in
-    let constants = ranged (reverse lines) (all_reversed (λ l. AreRangedContents (line_contents l)) lines (all_contents_ranged lines in_range)) in
-    let f = file_spelled (length bytes) pool lines (one_class [] lines none_said sound) fit (closed (reverse lines)) constants said sound in
-    (f.0, subst (λ (text : List ℕ). (class_file_part (length bytes)).spells text f.0 []) k.1 f.1)
+    let f = file_spelled (length bytes) pool lines (one_class [] lines none_said a.sound) a.fit (closed (reverse lines)) a.ranged_contents (all_found lines) in_range said a.sound in
+    (f.0, subst (λ (text : List ℕ). (class_file_part (length bytes)).spells text f.0 []) a.made f.1)

@@ -43,6 +43,10 @@ are_taken lines = list_all (is_taken (list_any begins_interface lines)) lines
 abbrev pub IsAClassFile : Type 0
 IsAClassFile = (text bytes : List ℕ) → IsAssembled text bytes → are_taken (meanings text) ≡ true → (file : ClassFile) × IsClassFile bytes file
 
+-- and it is none where it may not have what some line says
+abbrev pub IsNoOtherClassFile : Type 0
+IsNoOtherClassFile = (text bytes : List ℕ) → IsAssembled text bytes → are_taken (meanings text) ≡ false → (file : ClassFile) → IsClassFile bytes file → ⊥
+
 -- what a computed row opens
 unfoldable pub opened_laws : Unit {0}
 unfolding is_taken_type is_taken_method is_taken begins_interface are_taken

@@ -1,5 +1,5 @@
 -- The constants that a pool gives a class file, and what makes a pool and lines fit to be read again.
-use Rattle.std.specs.Prelude.{◌≡◌, ℕ, ◌<◌, ◌^◌, Bool, true, false, ◌&&◌, List, [], ◌∷◌, flat_map, Option, Some, None, FitsSigned}
+use Rattle.std.specs.Prelude.{◌≡◌, ℕ, ◌<◌, ◌^◌, true, List, [], ◌∷◌, flat_map, FitsSigned}
 use Rattle.std.specs.Int.{w32, w64}
 use Rattle.std.specs.List.{list_all, AllByRecursion}
 use Rattle.jx_base.specs.declared.class_file.Constant.{Constant}
@@ -10,9 +10,6 @@ use Rattle.asm_constants.specs.declared.content.Reference.{Reference}
 use Rattle.asm_constants.specs.declared.content.Reference.TheVariants as reference
 use Rattle.asm_constants.specs.Contents.{needed}
 use Rattle.asm_constants.specs.Pools.{has_content, index_of}
-use Rattle.asm_lines.specs.declared.line.Line.{Line}
-use Rattle.asm_lines.specs.declared.line.Line.TheVariants as line
-use Rattle.asm_lines.specs.declared.line.Member.{Member}
 
 -- ---- what a class file has
 
