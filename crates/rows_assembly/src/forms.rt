@@ -12,7 +12,7 @@ use std::test::Fail;
 // its opcode, whether it is wide, and its operands. The class has seven constants of its own.
 type Row = (&'static str, u8, bool, &'static [i32]);
 
-static ROWS: [Row; 46] = [
+static ROWS: [Row; 52] = [
     ("bipush -128", 0x10, false, &[-128]),
     ("bipush 127", 0x10, false, &[127]),
     ("sipush -32768", 0x11, false, &[-32768]),
@@ -77,17 +77,14 @@ static ROWS: [Row; 46] = [
     ("anewarray T", 0xbd, false, &[2]),
     ("checkcast [[I", 0xc0, false, &[9]),
     ("instanceof java/lang/Object", 0xc1, false, &[4]),
+    ("wide iload 65535", 0x15, true, &[65535]),
+    ("wide lload 256", 0x16, true, &[256]),
+    ("wide aload 0", 0x19, true, &[0]),
+    ("wide istore 65535", 0x36, true, &[65535]),
+    ("wide lstore 300", 0x37, true, &[300]),
+    ("wide astore 1", 0x3a, true, &[1]),
     ("wide iinc 65535 -32768", 0x84, true, &[65535, -32768]),
     ("multianewarray [[I 255", 0xc5, false, &[9, 255]),
-];
-
-static WIDE: [(&str, u8); 6] = [
-    ("iload", 0x15),
-    ("lload", 0x16),
-    ("aload", 0x19),
-    ("istore", 0x36),
-    ("lstore", 0x37),
-    ("astore", 0x3a),
 ];
 
 // The class file of a body that has the line between two labels.
