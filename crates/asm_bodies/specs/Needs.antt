@@ -1,6 +1,6 @@
 -- The constants that lines need, and the lengths of instructions.
 use Rattle.std.specs.Prelude.{ℕ, ◌+◌, Bool, List, [], ◌∷◌, flat_map, Option, Some, None, codes, sum_by, if◌then◌else◌}
-use Rattle.jx_base.specs.CodeGrammar.{padding_length}
+use Rattle.class_grammar.specs.CodeGrammar.{padding_length}
 use Rattle.asm_constants.specs.declared.content.Content.{Content}
 use Rattle.asm_constants.specs.declared.content.Content.TheVariants as content
 use Rattle.asm_constants.specs.Pools.{with_needed}

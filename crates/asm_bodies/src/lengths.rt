@@ -7,7 +7,7 @@ use jx_base::OutOfMemory;
 use std::alloc::AllocError;
 
 /// The bytes of an operand of the instruction at `pc`.
-#[tactic(auto, unfolding(crate::specs::Needs::operand_length, jx_base::specs::CodeGrammar::padding_length))]
+#[tactic(auto, unfolding(crate::specs::Needs::operand_length, class_grammar::specs::CodeGrammar::padding_length))]
 fn operand_length(pc: usize, operand: &Operand) -> usize
     ensures { result ≡ operand_length pc operand.now }
 {

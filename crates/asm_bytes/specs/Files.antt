@@ -1,7 +1,7 @@
 -- The bytes of the class file that lines say.
 use Rattle.std.specs.Prelude.{ℕ, suc, ◌+◌, ◌-◌, ◌^◌, ◌%◌, List, [], ◌∷◌, ◌++◌, flat_map, reverse, replicate, length, Option, Some, None, sum_by, unwrap_or, if◌then◌else◌}
 use Rattle.std.specs.Int.{to_be_bytes, cast_unsigned, w32}
-use Rattle.jx_base.specs.CodeGrammar.{padding_length}
+use Rattle.class_grammar.specs.CodeGrammar.{padding_length}
 use Rattle.asm_constants.specs.declared.content.Content.{Content}
 use Rattle.asm_constants.specs.declared.content.Content.TheVariants as content
 use Rattle.asm_constants.specs.Pools.{index_of, places, pool_bytes, two_bytes}

@@ -1,6 +1,6 @@
 //! The code of bodies.
 ghost use Rattle.std.specs.Prelude.{◌≡◌, ◌++◌, replicate, flat_map, OnOk, IfOk};
-ghost use Rattle.jx_base.specs.CodeGrammar.{padding_length};
+ghost use Rattle.class_grammar.specs.CodeGrammar.{padding_length};
 ghost use Rattle.asm_bytes.specs.Files.{pc_of, distance, operand_bytes, opcode_bytes, instruction_bytes, line_bytes, code_from};
 
 use crate::numbers::{push_four, push_two};

@@ -3,8 +3,8 @@ use Rattle.std.proofs.Common.{◌≡◌, refl, ap, ℕ, zero, suc, ◌/◌, List
 use Rattle.std.specs.Prelude.{pos, ◌+ℤ◌, ◌&&◌, ◌||◌, option_map, if◌then◌else◌, flat_map, slice_index_or}
 use Rattle.std.specs.List.{list_all}
 use Rattle.std.proofs.lemmas.Bool.{and_parts, and_from}
-use Rattle.jx_base.specs.CodeGrammar.{table_targets, key_targets, lookup_targets, targets_in, targets_of}
-use Rattle.jx_base.specs.Opcodes.{Opcode, opcode, plain_opcode, left_out, unassigned, constants, loads, stores, stack_forms, arithmetic, conversions, comparisons, control, references, extended, opcodes, opcode_at, form_at, row_at, wide_form_of, is_left_out_wide, wide_form_at}
+use Rattle.class_grammar.specs.CodeGrammar.{table_targets, key_targets, lookup_targets, targets_in, targets_of}
+use Rattle.class_grammar.specs.Opcodes.{Opcode, opcode, plain_opcode, left_out, unassigned, constants, loads, stores, stack_forms, arithmetic, conversions, comparisons, control, references, extended, opcodes, opcode_at, form_at, row_at, wide_form_of, is_left_out_wide, wide_form_at}
 use Rattle.jx_base.specs.declared.row.Form.{Form}
 use Rattle.jx_base.specs.declared.row.Form.TheVariants as form
 use Rattle.jx_base.specs.declared.row.Row.{Row}

@@ -5,7 +5,7 @@ use Rattle.std.specs.List.{list_any, list_all, AllByRecursion}
 use Rattle.std.specs.Str.{bytes_eq}
 use Rattle.std.proofs.lemmas.Bool.{and_parts}
 use Rattle.std.proofs.lemmas.Bool.Decides.{nat_tests}
-use Rattle.jx_base.specs.CodeGrammar.{BeginsWith, IsSpelledBy, instruction_part}
+use Rattle.class_grammar.specs.CodeGrammar.{BeginsWith, IsSpelledBy, instruction_part}
 use Rattle.asm_constants.specs.declared.content.Content.{Content}
 use Rattle.asm_constants.specs.Pools.{fits, index_of}
 use Rattle.asm_lines.specs.Lines.{meanings}

@@ -2,8 +2,8 @@
 use Rattle.std.proofs.Common.{◌≡◌, refl, sym, subst, ℕ, ◌<◌, ◌^◌, List, ◌∷◌, ◌++◌, Bool, true, false, Some, Option, arith, ℤ}
 use Rattle.std.specs.Prelude.{flat_map}
 use Rattle.std.specs.List.{AllByRecursion}
-use Rattle.jx_base.specs.CodeGrammar.{past_end, operands_part, behind_opcode, wide_part, instruction_part}
-use Rattle.jx_base.specs.Opcodes.{opcode, plain_opcode, left_out, unassigned, constants, loads, stores, stack_forms, arithmetic, conversions, comparisons, control, references, extended, opcodes, opcode_at, form_at, wide_form_at}
+use Rattle.class_grammar.specs.CodeGrammar.{past_end, operands_part, behind_opcode, wide_part, instruction_part}
+use Rattle.class_grammar.specs.Opcodes.{opcode, plain_opcode, left_out, unassigned, constants, loads, stores, stack_forms, arithmetic, conversions, comparisons, control, references, extended, opcodes, opcode_at, form_at, wide_form_at}
 use Rattle.jx_base.specs.declared.class_file.Instr.{Instr}
 use Rattle.jx_base.specs.declared.fault.CodeKind.TheVariants as kind
 use Rattle.jx_base.specs.declared.row.Form.{Form}

@@ -4,7 +4,7 @@ use Rattle.std.specs.Prelude.{pos, ◌+ℤ◌, int_le, FitsSigned}
 use Rattle.std.specs.Int.{w8, w16, w32, to_be_bytes, from_be_bytes, cast_signed, cast_unsigned, int_wrap}
 use Rattle.std.proofs.lemmas.Bool.Decides.{nat_tests}
 use Rattle.std.proofs.lemmas.Int.{to_z-of_z, ints, int_wrap_fits}
-use Rattle.jx_base.specs.Parts.{number}
+use Rattle.class_grammar.specs.Parts.{number}
 use Rattle.asm_bodies.specs.Bodies.{is_near}
 use Rattle.asm_bytes.specs.Files.{distance}
 use Rattle.asm_laws.proofs.Numbers.{length-to_be_bytes, number_spelled}

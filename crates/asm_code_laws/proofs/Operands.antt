@@ -7,9 +7,9 @@ use Rattle.std.specs.Str.{bytes_eq}
 use Rattle.std.proofs.lemmas.Bool.Decides.{nat_tests}
 use Rattle.std.proofs.lemmas.Int.{ints}
 use Rattle.std.proofs.lemmas.List.{length-replicate}
-use Rattle.jx_base.specs.CodeGrammar.{past_end, unsigned_operand, signed_operand, target_operand, interface_operands, array_type_operand, dimensions_operands, increment_operands, padding_length, key_operands, keys_rise, operands_part, table_operands as table_part, lookup_operands as lookup_part}
-use Rattle.jx_base.specs.Descriptors.{MethodType, field_type_of, method_type_of}
-use Rattle.jx_base.specs.Parts.{repeated, bytes_of, number}
+use Rattle.class_grammar.specs.CodeGrammar.{past_end, unsigned_operand, signed_operand, target_operand, interface_operands, array_type_operand, dimensions_operands, increment_operands, padding_length, key_operands, keys_rise, operands_part, table_operands as table_part, lookup_operands as lookup_part}
+use Rattle.class_grammar.specs.Descriptors.{MethodType, field_type_of, method_type_of}
+use Rattle.class_grammar.specs.Parts.{repeated, bytes_of, number}
 use Rattle.jx_base.specs.declared.fault.CodeKind.{CodeKind}
 use Rattle.jx_base.specs.declared.row.Form.{Form}
 use Rattle.jx_base.specs.declared.row.Form.TheVariants as form

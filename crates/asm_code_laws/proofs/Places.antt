@@ -6,7 +6,7 @@ use Rattle.std.specs.Ordering.{int_eq}
 use Rattle.std.specs.Str.{bytes_eq}
 use Rattle.std.proofs.lemmas.Bool.{and_parts, and_from, or_left, or_right, ltb-true}
 use Rattle.std.proofs.lemmas.Bool.Decides.{nat_tests}
-use Rattle.jx_base.specs.CodeGrammar.{IsCode, starts_at, is_astray, first_astray, is_range_of, first_bad_range}
+use Rattle.class_grammar.specs.CodeGrammar.{IsCode, starts_at, is_astray, first_astray, is_range_of, first_bad_range}
 use Rattle.jx_base.specs.declared.class_file.Instr.{Instr}
 use Rattle.asm_constants.specs.declared.content.Content.{Content}
 use Rattle.asm_lines.specs.declared.line.Instruction.{Instruction}

@@ -4,8 +4,8 @@ use Rattle.std.specs.Prelude.{◌&&◌, ◌==◌, option_map, if◌then◌else�
 use Rattle.std.specs.List.{list_all, AllByRecursion, position}
 use Rattle.std.specs.Str.{bytes_eq}
 use Rattle.std.proofs.lemmas.List.Quantifiers.{position-Some}
-use Rattle.jx_base.specs.Descriptors.{field_type_of, method_type_of}
-use Rattle.jx_base.specs.Opcodes.{Opcode, unassigned, constants, loads, stores, stack_forms, arithmetic, conversions, comparisons, control, references, extended, opcodes, form_at, row_at, wide_form_at}
+use Rattle.class_grammar.specs.Descriptors.{field_type_of, method_type_of}
+use Rattle.class_grammar.specs.Opcodes.{Opcode, unassigned, constants, loads, stores, stack_forms, arithmetic, conversions, comparisons, control, references, extended, opcodes, form_at, row_at, wide_form_at}
 use Rattle.jx_base.specs.declared.row.Row.{Row}
 use Rattle.asm_words.specs.Numbers.{flags_of}
 use Rattle.asm_words.specs.Words.{lines_of, units_of, words_of}

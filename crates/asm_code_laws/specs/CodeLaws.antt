@@ -1,7 +1,7 @@
 -- The code that is assembled for a body is the body's instructions, and it is code but for labels at its end and for entries of its table that end before they start.
 use Rattle.std.specs.Prelude.{◌≡◌, ℕ, Bool, true, ◌&&◌, List, ◌∷◌, ◌++◌, flat_map, length, reverse, nat_lt}
 use Rattle.std.specs.List.{list_all}
-use Rattle.jx_base.specs.CodeGrammar.{IsCode, IsSpelledBy}
+use Rattle.class_grammar.specs.CodeGrammar.{IsCode, IsSpelledBy}
 use Rattle.asm_constants.specs.declared.content.Content.{Content}
 use Rattle.asm_lines.specs.Lines.{meanings}
 use Rattle.asm_lines.specs.declared.line.Line.{Line}

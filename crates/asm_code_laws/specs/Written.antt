@@ -1,7 +1,7 @@
 -- What the instructions and the catches of a body are when they are read again.
 use Rattle.std.specs.Prelude.{ℕ, ◌+◌, ℤ, pos, List, [], ◌∷◌, ◌++◌, flat_map, if◌then◌else◌}
 use Rattle.std.specs.Int.{cast_signed, w8, w16}
-use Rattle.jx_base.specs.Opcodes.{form_at, wide_form_at}
+use Rattle.class_grammar.specs.Opcodes.{form_at, wide_form_at}
 use Rattle.jx_base.specs.declared.class_file.Instr.{Instr}
 use Rattle.jx_base.specs.declared.class_file.Range.{Range}
 use Rattle.jx_base.specs.declared.row.Form.{Form}

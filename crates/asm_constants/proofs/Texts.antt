@@ -2,7 +2,7 @@
 use Rattle.std.proofs.Common.{ℕ, ◌*◌, ◌≤◌, List, [], ◌∷◌, length, length-append, inl, inr, arith}
 use Rattle.std.specs.Prelude.{◌&&◌, nat_le, nat_lt}
 use Rattle.std.proofs.lemmas.Bool.{cases_Bool}
-use Rattle.jx_base.specs.ModifiedUtf8.{unit_bytes, modified_utf8}
+use Rattle.class_grammar.specs.ModifiedUtf8.{unit_bytes, modified_utf8}
 
 unit_length : (u : ℕ) → (1 ≤ length (unit_bytes u)) × (length (unit_bytes u) ≤ 3)
 unfolding unit_bytes

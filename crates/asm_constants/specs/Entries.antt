@@ -1,7 +1,7 @@
 -- The entries of a pool: its constants with their indices.
 use Rattle.std.specs.Prelude.{◌≡◌, ℕ, suc, ◌+◌, Bool, List, [], ◌∷◌, ◌++◌, sum_by}
 use Rattle.std.specs.Int.{to_be_bytes, cast_unsigned, w32, w64}
-use Rattle.jx_base.specs.ModifiedUtf8.{modified_utf8}
+use Rattle.class_grammar.specs.ModifiedUtf8.{modified_utf8}
 use Rattle.std.specs.List.{list_all}
 use Rattle.std.specs.Map.{keys_of}
 use Rattle.asm_constants.specs.declared.content.Content.{Content}
@@ -43,6 +43,6 @@ bytes_behind_tag pool (content.Member kind class name descriptor) =
     two_bytes (index_of pool (content.Class class)) ++ two_bytes (index_of pool (content.NameAndType name descriptor))
 
 -- what a computed row opens
-unfoldable pub opened_entries : Unit {0}
+unfoldable pub opened_after_entry : Unit {0}
 unfolding AreNumbered content_tag bytes_behind_tag
-opened_entries = tt
+opened_after_entry = tt

@@ -2,7 +2,7 @@
 use Rattle.std.specs.Prelude.{ℕ, ◌+◌, ◌&&◌, Bool, true, List, [], ◌∷◌, ◌++◌, flat_map, length, sum_by, if◌then◌else◌, nat_le}
 use Rattle.std.specs.Int.{to_be_bytes, cast_unsigned, w16, w32, w64}
 use Rattle.std.specs.List.{list_any, list_all}
-use Rattle.jx_base.specs.ModifiedUtf8.{modified_utf8}
+use Rattle.class_grammar.specs.ModifiedUtf8.{modified_utf8}
 use Rattle.asm_constants.specs.declared.content.Content.{Content}
 use Rattle.asm_constants.specs.declared.content.Content.TheVariants as content
 use Rattle.asm_constants.specs.Contents.{tag_of, same_content, needed}

@@ -1,6 +1,6 @@
 //! Constants, by what they say.
 ghost use Rattle.std.specs.Prelude.{◌≡◌, IfOk, length, nat_le};
-ghost use Rattle.jx_base.specs.ModifiedUtf8.{modified_utf8};
+ghost use Rattle.class_grammar.specs.ModifiedUtf8.{modified_utf8};
 ghost use Rattle.asm_constants.specs.Contents.{needed, tag_of};
 ghost use Rattle.asm_constants.specs.Entries.{content_tag};
 ghost use Rattle.asm_constants.specs.Pools.{is_short, places};

@@ -2,7 +2,7 @@
 ghost use Rattle.std.specs.Prelude.{◌≡◌, suc, sum_by, IfOk, IsTrue, [], OnOk, ◌++◌};
 ghost use Rattle.asm_constants.specs.Entries.{bytes_behind_tag};
 ghost use Rattle.asm_constants.specs.Pools.{constant_bytes, fits, has_content, text_bytes, two_bytes, index_of, places, with_needed, with_new, with_all_new, pool_bytes};
-ghost use Rattle.jx_base.specs.ModifiedUtf8.{modified_utf8};
+ghost use Rattle.class_grammar.specs.ModifiedUtf8.{modified_utf8};
 
 use crate::content::{Content, class_content, pair_content, text_content};
 use crate::numbers::two_bytes;

@@ -4,9 +4,9 @@ use Rattle.std.specs.Prelude.{◌||◌, ◌==◌, nat_le, flat_map}
 use Rattle.std.specs.Int.{w16, w32, from_be_bytes}
 use Rattle.std.specs.List.{list_all, AllByRecursion}
 use Rattle.std.proofs.lemmas.Bool.{le-leb}
-use Rattle.jx_base.specs.Parts.{bytes_of}
-use Rattle.jx_base.specs.Constants.{names_class}
-use Rattle.jx_base.specs.Members.{catches_class, range_part, table_part, code_part}
+use Rattle.class_grammar.specs.Parts.{bytes_of}
+use Rattle.class_grammar.specs.Constants.{names_class}
+use Rattle.class_grammar.specs.Members.{catches_class, range_part, table_part, code_part}
 use Rattle.jx_base.specs.declared.class_file.Code.{Code}
 use Rattle.jx_base.specs.declared.class_file.Range.{Range}
 use Rattle.jx_base.specs.declared.fault.ClassFault.{ClassFault}

@@ -8,8 +8,8 @@ use Rattle.std.proofs.lemmas.List.{reverse-append}
 use Rattle.std.proofs.lemmas.List.Sums.{sum_by-cons}
 use Rattle.jx_base.specs.declared.class_file.Constant.{Constant}
 use Rattle.jx_base.specs.declared.class_file.Constant.TheVariants as constant
-use Rattle.jx_base.specs.Constants.{cut_off, text_of_constant, text_at, constant_length, constants_part, is_text, is_class, is_name_and_type, names_text, names_class, names_member, names_rightly, misnaming_fault}
-use Rattle.jx_base.specs.ClassGrammar.{pool_part, first_constant}
+use Rattle.class_grammar.specs.Constants.{cut_off, text_of_constant, text_at, constant_length, constants_part, is_text, is_class, is_name_and_type, names_text, names_class, names_member, names_rightly, misnaming_fault}
+use Rattle.class_grammar.specs.ClassGrammar.{pool_part, first_constant}
 use Rattle.asm_constants.specs.declared.content.Content.{Content}
 use Rattle.asm_constants.specs.declared.content.Content.TheVariants as content
 use Rattle.asm_constants.specs.declared.content.Reference.{Reference}

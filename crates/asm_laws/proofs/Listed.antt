@@ -5,11 +5,11 @@ use Rattle.std.specs.Int.{w16}
 use Rattle.std.specs.List.{list_any, AllByRecursion}
 use Rattle.std.proofs.lemmas.List.Concat.{flat_map-append}
 use Rattle.std.proofs.lemmas.List.Folds.{list_any-append}
-use Rattle.jx_base.specs.Flags.{is_interface_flag}
-use Rattle.jx_base.specs.Parts.{Part, repeated}
-use Rattle.jx_base.specs.ClassGrammar.{Heading, interface_part, heading_part, fields_part, methods_part}
-use Rattle.jx_base.specs.Constants.{cut_off}
-use Rattle.jx_base.specs.Members.{field_part, method_part}
+use Rattle.class_grammar.specs.Flags.{is_interface_flag}
+use Rattle.class_grammar.specs.Parts.{Part, repeated}
+use Rattle.class_grammar.specs.ClassGrammar.{Heading, interface_part, heading_part, fields_part, methods_part}
+use Rattle.class_grammar.specs.Constants.{cut_off}
+use Rattle.class_grammar.specs.Members.{field_part, method_part}
 use Rattle.jx_base.specs.declared.class_file.Member.{Member}
 use Rattle.jx_base.specs.declared.fault.ClassFault.{ClassFault}
 use Rattle.asm_constants.specs.declared.content.Content.{Content}

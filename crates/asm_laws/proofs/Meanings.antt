@@ -3,8 +3,8 @@ use Rattle.std.proofs.Common.{ℕ, ◌^◌, ◌<◌, List, [], ◌∷◌, Bool, 
 use Rattle.std.specs.Prelude.{◌&&◌, ◌==◌, option_map, if◌then◌else◌, codes, is_some}
 use Rattle.std.specs.List.{list_all, AllByRecursion}
 use Rattle.std.specs.Str.{bytes_eq}
-use Rattle.jx_base.specs.Descriptors.{field_type_of, method_type_of}
-use Rattle.jx_base.specs.Opcodes.{form_at, row_at, wide_form_at}
+use Rattle.class_grammar.specs.Descriptors.{field_type_of, method_type_of}
+use Rattle.class_grammar.specs.Opcodes.{form_at, row_at, wide_form_at}
 use Rattle.asm_words.specs.Numbers.{flags_of}
 use Rattle.asm_words.specs.Words.{lines_of, units_of, words_of}
 use Rattle.asm_lines.specs.declared.line.AsmKind.TheVariants as kind

@@ -3,10 +3,10 @@ use Rattle.std.proofs.Common.{◌≡◌, refl, ℕ, ◌-◌, List, [], ◌∷◌
 use Rattle.std.specs.Prelude.{not, ◌&&◌}
 use Rattle.std.specs.Int.{w16, from_be_bytes}
 use Rattle.std.specs.List.{list_all}
-use Rattle.jx_base.specs.Parts.{repeated, number}
-use Rattle.jx_base.specs.Constants.{cut_off}
-use Rattle.jx_base.specs.Descriptors.{FieldType, field_type_of, is_floating}
-use Rattle.jx_base.specs.Members.{name_part, class_index, skipped_attributes, field_part}
+use Rattle.class_grammar.specs.Parts.{repeated, number}
+use Rattle.class_grammar.specs.Constants.{cut_off}
+use Rattle.class_grammar.specs.Descriptors.{FieldType, field_type_of, is_floating}
+use Rattle.class_grammar.specs.Members.{name_part, class_index, skipped_attributes, field_part}
 use Rattle.jx_base.specs.declared.class_file.Constant.{Constant}
 use Rattle.jx_base.specs.declared.class_file.Member.{Member}
 use Rattle.jx_base.specs.declared.fault.ClassFault.{ClassFault}

@@ -3,11 +3,11 @@ use Rattle.std.proofs.Common.{◌≡◌, refl, sym, subst, ℕ, ◌+◌, ◌*◌
 use Rattle.std.specs.Prelude.{not, ◌&&◌, ◌||◌, is_some}
 use Rattle.std.specs.Int.{w16, w32}
 use Rattle.std.specs.List.{list_all, AllByRecursion}
-use Rattle.jx_base.specs.Flags.{is_abstract}
-use Rattle.jx_base.specs.Parts.{Part, ◌>>=◌, number}
-use Rattle.jx_base.specs.Constants.{class_fault, cut_off}
-use Rattle.jx_base.specs.Descriptors.{MethodType, method_type_of}
-use Rattle.jx_base.specs.Members.{code_body, is_code_name, is_supported_method, method_attributes, method_part}
+use Rattle.class_grammar.specs.Flags.{is_abstract}
+use Rattle.class_grammar.specs.Parts.{Part, ◌>>=◌, number}
+use Rattle.class_grammar.specs.Constants.{class_fault, cut_off}
+use Rattle.class_grammar.specs.Descriptors.{MethodType, method_type_of}
+use Rattle.class_grammar.specs.Members.{code_body, is_code_name, is_supported_method, method_attributes, method_part}
 use Rattle.jx_base.specs.declared.class_file.Code.{Code}
 use Rattle.jx_base.specs.declared.class_file.Member.{Member}
 use Rattle.jx_base.specs.declared.fault.ClassFault.{ClassFault}

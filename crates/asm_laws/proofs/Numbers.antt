@@ -4,7 +4,7 @@ use Rattle.std.proofs.Math.Nat.{div-div-eq-div-mul}
 use Rattle.std.specs.Int.{Width, w8, w16, w32, w64, w128, byte_len, to_be_bytes, from_be_bytes, bytes_high_first}
 use Rattle.std.proofs.lemmas.Nat.{from_be_bytes-to_be_bytes_2, from_be_bytes-to_be_bytes_4, from_be_bytes-to_be_bytes_8}
 use mir.Val.{bits}
-use Rattle.jx_base.specs.Parts.{number}
+use Rattle.class_grammar.specs.Parts.{number}
 
 length_high_first : (k n : ℕ) → length (bytes_high_first k n) ≡ k
 length_high_first zero n = refl

@@ -5,7 +5,7 @@ use Rattle.std.specs.Int.{w8, w16, w32, w64, cast_unsigned}
 use Rattle.std.specs.List.{list_all}
 use Rattle.std.specs.Str.{bytes_eq}
 use Rattle.std.proofs.lemmas.Int.{ints}
-use Rattle.jx_base.specs.Descriptors.{MethodType, field_type_of, method_type_of}
+use Rattle.class_grammar.specs.Descriptors.{MethodType, field_type_of, method_type_of}
 use Rattle.jx_base.specs.declared.row.Form.{Form}
 use Rattle.jx_base.specs.declared.row.Form.TheVariants as form
 use Rattle.jx_base.specs.declared.row.Row.{Row}

@@ -4,16 +4,16 @@ use Rattle.std.specs.Prelude.{flat_map, sum_by}
 use Rattle.std.specs.Int.{w16}
 use Rattle.std.specs.List.{list_any, list_all, AllByRecursion}
 use Rattle.std.proofs.lemmas.Bool.{and_from}
-use Rattle.jx_base.specs.Flags.{is_interface_flag}
-use Rattle.jx_base.specs.Parts.{Part, ◌>>=◌, repeated, number}
-use Rattle.jx_base.specs.ClassGrammar.{Version, Heading, version_part, pool_part, heading_part, fields_part, methods_part, class_file_part, IsClassFile}
-use Rattle.jx_base.specs.Constants.{cut_off}
-use Rattle.jx_base.specs.Members.{field_part, method_part}
+use Rattle.class_grammar.specs.Flags.{is_interface_flag}
+use Rattle.class_grammar.specs.Parts.{Part, ◌>>=◌, repeated, number}
+use Rattle.class_grammar.specs.ClassGrammar.{Version, Heading, version_part, pool_part, heading_part, fields_part, methods_part, class_file_part, IsClassFile}
+use Rattle.class_grammar.specs.Constants.{cut_off}
+use Rattle.class_grammar.specs.Members.{field_part, method_part}
 use Rattle.jx_base.specs.declared.class_file.ClassFile.{ClassFile}
 use Rattle.jx_base.specs.declared.class_file.Constant.{Constant}
 use Rattle.jx_base.specs.declared.class_file.Member.{Member}
 use Rattle.jx_base.specs.declared.fault.ClassFault.{ClassFault}
-use Rattle.jx_base.proofs.PartLaws.{lawful-number}
+use Rattle.class_grammar.proofs.PartLaws.{lawful-number}
 use Rattle.asm_constants.specs.declared.content.Content.{Content}
 use Rattle.asm_constants.specs.Pools.{two_bytes, fits, places, pool_bytes}
 use Rattle.asm_lines.specs.declared.line.Line.{Line}

@@ -2,7 +2,7 @@
 use Rattle.std.proofs.Common.{◌≡◌, refl, sym, subst, ℕ, suc, List, [], ◌∷◌, ◌++◌, Bool, true, false, length, append_assoc}
 use Rattle.std.specs.Prelude.{flat_map, filter, if◌then◌else◌}
 use Rattle.std.specs.List.{AllByRecursion}
-use Rattle.jx_base.specs.Parts.{Part, repeated}
+use Rattle.class_grammar.specs.Parts.{Part, repeated}
 use Rattle.asm_lines.specs.declared.line.Line.{Line}
 use Rattle.asm_bodies.specs.Lines.{count_of}
 

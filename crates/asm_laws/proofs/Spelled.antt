@@ -10,9 +10,9 @@ use Rattle.jx_base.specs.declared.class_file.Constant.{Constant}
 use Rattle.jx_base.specs.declared.class_file.Constant.TheVariants as constant
 use Rattle.jx_base.specs.declared.constant_tag.ConstantTag.{ConstantTag}
 use Rattle.jx_base.specs.declared.constant_tag.ConstantTag.TheVariants as tag
-use Rattle.jx_base.specs.Parts.{number, bytes_of}
-use Rattle.jx_base.specs.ModifiedUtf8.{modified_utf8}
-use Rattle.jx_base.specs.Constants.{cut_off, constant_tags, tag_of, index_pair, utf8_body, constant_body, constant_part, is_double_width, constants_part}
+use Rattle.class_grammar.specs.Parts.{number, bytes_of}
+use Rattle.class_grammar.specs.ModifiedUtf8.{modified_utf8}
+use Rattle.class_grammar.specs.Constants.{cut_off, constant_tags, tag_of, index_pair, utf8_body, constant_body, constant_part, is_double_width, constants_part}
 use Rattle.asm_constants.specs.declared.content.Content.{Content}
 use Rattle.asm_constants.specs.declared.content.Content.TheVariants as content
 use Rattle.asm_constants.specs.declared.content.Reference.{Reference}

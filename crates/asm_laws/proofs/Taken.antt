@@ -3,15 +3,15 @@ use Rattle.std.proofs.Common.{◌≡◌, ◌∙◌, refl, sym, ap, subst, ℕ, s
 use Rattle.std.specs.Prelude.{not, ◌&&◌, ◌||◌, is_none, is_some, flat_map}
 use Rattle.std.specs.Int.{w16, w32, from_be_bytes}
 use Rattle.std.specs.List.{list_all, AllByRecursion}
-use Rattle.jx_base.specs.Flags.{is_abstract}
-use Rattle.jx_base.specs.Parts.{Part, ◌>>=◌, here, repeated, number}
-use Rattle.jx_base.specs.Constants.{cut_off}
-use Rattle.jx_base.specs.Descriptors.{field_type_of, method_type_of}
-use Rattle.jx_base.specs.Members.{name_part, is_code_name, method_attributes, field_part, method_part}
+use Rattle.class_grammar.specs.Flags.{is_abstract}
+use Rattle.class_grammar.specs.Parts.{Part, ◌>>=◌, here, repeated, number}
+use Rattle.class_grammar.specs.Constants.{cut_off}
+use Rattle.class_grammar.specs.Descriptors.{field_type_of, method_type_of}
+use Rattle.class_grammar.specs.Members.{name_part, is_code_name, method_attributes, field_part, method_part}
 use Rattle.jx_base.specs.declared.class_file.Code.{Code}
 use Rattle.jx_base.specs.declared.class_file.Member.{Member}
 use Rattle.jx_base.specs.declared.fault.ClassFault.{ClassFault}
-use Rattle.jx_base.proofs.PartLaws.{IsLawful, lawful-here, lawful-number}
+use Rattle.class_grammar.proofs.PartLaws.{IsLawful, lawful-here, lawful-number}
 use Rattle.class_texts.proofs.DescriptorLaws.{field_law, method_law}
 use Rattle.asm_constants.specs.declared.content.Content.{Content}
 use Rattle.asm_constants.specs.declared.content.Content.TheVariants as content

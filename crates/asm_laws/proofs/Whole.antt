@@ -4,9 +4,9 @@ use Rattle.std.specs.Prelude.{flat_map, sum_by}
 use Rattle.std.specs.Int.{w16, w32}
 use Rattle.std.specs.List.{list_any, list_all, AllByRecursion}
 use Rattle.std.proofs.lemmas.List.{reverse-append}
-use Rattle.jx_base.specs.Flags.{is_interface_flag}
-use Rattle.jx_base.specs.ClassGrammar.{version_part, methods_part, class_file_part, IsClassFile}
-use Rattle.jx_base.specs.Constants.{cut_off}
+use Rattle.class_grammar.specs.Flags.{is_interface_flag}
+use Rattle.class_grammar.specs.ClassGrammar.{version_part, methods_part, class_file_part, IsClassFile}
+use Rattle.class_grammar.specs.Constants.{cut_off}
 use Rattle.jx_base.specs.declared.class_file.ClassFile.{ClassFile}
 use Rattle.asm_constants.specs.declared.content.Content.{Content}
 use Rattle.asm_constants.specs.Pools.{two_bytes, fits, places, pool_bytes}

@@ -1,10 +1,10 @@
 -- What is assembled is a class file, but for what a line may say that no class file may have.
 use Rattle.std.specs.Prelude.{◌≡◌, ℕ, Bool, true, false, ◌&&◌, not, List, Option, Some, None}
 use Rattle.std.specs.List.{list_any, list_all}
-use Rattle.jx_base.specs.ClassGrammar.{IsClassFile}
-use Rattle.jx_base.specs.Descriptors.{FieldType, MethodType, field_type_of, method_type_of, is_floating}
-use Rattle.jx_base.specs.Flags.{is_abstract, is_interface_flag}
-use Rattle.jx_base.specs.Members.{is_supported_method}
+use Rattle.class_grammar.specs.ClassGrammar.{IsClassFile}
+use Rattle.class_grammar.specs.Descriptors.{FieldType, MethodType, field_type_of, method_type_of, is_floating}
+use Rattle.class_grammar.specs.Flags.{is_abstract, is_interface_flag}
+use Rattle.class_grammar.specs.Members.{is_supported_method}
 use Rattle.jx_base.specs.declared.class_file.ClassFile.{ClassFile}
 use Rattle.asm_lines.specs.Lines.{meanings}
 use Rattle.asm_lines.specs.declared.line.Line.{Line}

@@ -2,8 +2,8 @@
 use Rattle.std.specs.Prelude.{ℕ, pos, Bool, true, false, ◌&&◌, if◌then◌else◌, map, List, [], ◌∷◌, Option, Some, None, option_map, is_some, codes, ◌==◌, position, unsigned_abs}
 use Rattle.std.specs.List.{list_all}
 use Rattle.std.specs.Str.{bytes_eq}
-use Rattle.jx_base.specs.Descriptors.{field_type_of, method_type_of}
-use Rattle.jx_base.specs.Opcodes.{opcodes, form_at, row_at, wide_form_at}
+use Rattle.class_grammar.specs.Descriptors.{field_type_of, method_type_of}
+use Rattle.class_grammar.specs.Opcodes.{opcodes, form_at, row_at, wide_form_at}
 use Rattle.asm_words.specs.Words.{lines_of, units_of, words_of}
 use Rattle.asm_words.specs.Numbers.{number_of, within, flags_of}
 use Rattle.asm_lines.specs.declared.line.AsmKind.TheVariants as kind

@@ -3,7 +3,7 @@ use Rattle.std.specs.Prelude.{map, ℕ, ◌+◌, ◌-◌, ◌^◌, ◌/◌, ℤ,
 use Rattle.std.specs.Int.{cast_unsigned, w8, w16}
 use Rattle.std.specs.List.{list_all}
 use Rattle.std.specs.Str.{bytes_eq}
-use Rattle.jx_base.specs.Descriptors.{MethodType, field_type_of, method_type_of}
+use Rattle.class_grammar.specs.Descriptors.{MethodType, field_type_of, method_type_of}
 use Rattle.jx_base.specs.declared.row.Form.{Form}
 use Rattle.jx_base.specs.declared.row.Form.TheVariants as form
 use Rattle.jx_base.specs.declared.row.Row.{Row}

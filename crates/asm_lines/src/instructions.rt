@@ -1,6 +1,6 @@
 //! Lines that are instructions.
 ghost use Rattle.std.specs.Prelude.{◌≡◌, false};
-ghost use Rattle.jx_base.specs.Opcodes.{form_at, row_at};
+ghost use Rattle.class_grammar.specs.Opcodes.{form_at, row_at};
 ghost use Rattle.asm_lines.specs.Operands.{operands_of};
 ghost use Rattle.asm_lines.specs.Lines.{opcode_named, with_operands, wide_instruction};
 ghost use Rattle.asm_lines.specs.Readings.{Tells, texts};

@@ -1,6 +1,6 @@
 //! The operands of an instruction.
 ghost use Rattle.std.specs.Prelude.{◌≡◌, ◌∷◌, [], Some, None, option_map, is_some};
-ghost use Rattle.jx_base.specs.Descriptors.{field_type_of, method_type_of};
+ghost use Rattle.class_grammar.specs.Descriptors.{field_type_of, method_type_of};
 ghost use Rattle.asm_lines.specs.Operands.{signed_byte, signed_short, unsigned_byte, unsigned_short, increment, wide_increment, class_operand, member_operand, field_operand, method_operand, count_operands, interface_operand, byte_constant, short_constant, long_constant, element_type, array_type, dimensions, target, far_target, nothing, index_operand, byte_operand, operands_of};
 ghost use Rattle.asm_lines.specs.declared.line.Operand.TheVariants.{Byte};
 ghost use Rattle.asm_lines.specs.Readings.{Tells, texts};

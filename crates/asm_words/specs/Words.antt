@@ -50,6 +50,6 @@ unfoldable pub units_of : List ℕ → Option (List ℕ)
 units_of bytes = if is_utf8 bytes then Some (flat_map encode_utf16 (chars bytes)) else None
 
 -- what a computed row opens
-unfoldable pub opened_words : Unit {0}
+unfoldable pub opened_basics : Unit {0}
 unfolding begun lines_of position_behind words_from words_of units_of
-opened_words = tt
+opened_basics = tt

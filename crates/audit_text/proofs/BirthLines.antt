@@ -6,13 +6,13 @@ use Rattle.std.proofs.lemmas.Grind.{reverse_onto, flat_map-append}
 use Rattle.jx_base.specs.declared.act.Entry.{Entry}
 use Rattle.jx_base.specs.declared.act.Reason.{Reason}
 use Rattle.jx_base.specs.declared.program.System.{System}
-use Rattle.jx_model.specs.Words.{up_to, or_zero, and_then, mapped}
-use Rattle.jx_model.specs.Histories.{Past}
+use Rattle.jx_base.specs.Basics.{up_to, or_zero, and_then, mapped}
+use Rattle.jx_base.specs.Histories.{Past}
 use Rattle.jx_base.specs.Texts.{after_space, spaced, line}
-use Rattle.jx_model.specs.Audit.{template_text}
+use Rattle.audit_model.specs.Audit.{template_text}
 use Rattle.jx_model.specs.Domains.{domains_made, birth_of, is_birth, named_template, template_of, creator_of, end_reason}
-use Rattle.jx_model.specs.AuditText.{domain_line, standing_words}
-use Rattle.jx_model.proofs.Numbers.{count_new, count_same}
+use Rattle.audit_model.specs.AuditText.{domain_line, standing_words}
+use Rattle.jx_base.proofs.NthEntries.{count_new, count_same}
 use Rattle.audit_text.specs.Rendering.{IsBuiltEntry, made_template, domain_text, standing_text, whole_line}
 use Rattle.audit_text.proofs.Births.{each_birth, each_birth-new, each_birth-same, same_up_to}
 use Rattle.audit_text.proofs.Built.{birth_created, named_template-made}

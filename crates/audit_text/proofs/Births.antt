@@ -3,11 +3,11 @@ use Rattle.std.proofs.Common.{◌≡◌, refl, ◌∙◌, ap, ℕ, zero, suc, �
 use Rattle.std.specs.List.{flat_map, range_with_len}
 use Rattle.std.proofs.lemmas.Grind.{flat_map-append}
 use Rattle.jx_base.specs.declared.act.Entry.{Entry}
-use Rattle.jx_model.specs.Words.{up_to}
-use Rattle.jx_model.specs.Histories.{Past}
+use Rattle.jx_base.specs.Basics.{up_to}
+use Rattle.jx_base.specs.Histories.{Past}
 use Rattle.jx_model.specs.Domains.{domains_made, birth_of, is_birth}
-use Rattle.jx_model.proofs.Kit.{up_to_append}
-use Rattle.jx_model.proofs.Numbers.{nth_new, nth_old, nth_same, count_new, count_same}
+use Rattle.jx_base.proofs.BasicLaws.{up_to_append}
+use Rattle.jx_base.proofs.NthEntries.{nth_new, nth_old, nth_same, count_new, count_same}
 
 -- two functions that agree on a range
 pub same_on_range : {X : Type 0} (f h : ℕ → List X) (a n : ℕ) → ((d : ℕ) → a ≤ d → d < a + n → f d ≡ h d) → flat_map f (range_with_len a n) ≡ flat_map h (range_with_len a n)

@@ -14,7 +14,7 @@ use Rattle.jx_base.specs.declared.act.Refusal.TheVariants as refusal
 use Rattle.jx_base.specs.declared.act.Entry.{Entry}
 use Rattle.jx_base.specs.declared.act.History.{History}
 use Rattle.jx_base.specs.declared.program.System.{System}
-use Rattle.jx_model.specs.Histories.{Past, past_of}
+use Rattle.jx_base.specs.Histories.{Past, past_of}
 use Rattle.jx_model.specs.Domains.{is_birth, makes_domain, ended_by, ended_by_act, end_reason, reason_for, named_template}
 use Rattle.jx_model.specs.Calls.{is_call, asked_by, calls_made}
 use Rattle.jx_model.specs.MemoryObjects.{is_allocation, makes_extent, extents_made}
@@ -22,7 +22,7 @@ use Rattle.jx_model.specs.Granules.{first_fit, heap_granules}
 use Rattle.jx_model.specs.Replies.{reply_to, new_domain, ◌refuses◌else◌, given_or}
 use Rattle.jx_model.specs.Legal.{IsNext, IsAdmitted, IsAdmittedPast}
 use Rattle.jx_model.specs.WellMade.{IsBuilt, is_built}
-use Rattle.jx_model.proofs.Numbers.{count_same}
+use Rattle.jx_base.proofs.NthEntries.{count_same}
 use Rattle.audit_text.specs.Rendering.{IsBuiltReply, IsBuiltEntry, HasBuiltActs, made_template, own_reason}
 
 -- ---- what all have, in any order

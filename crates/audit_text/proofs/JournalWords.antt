@@ -8,12 +8,13 @@ use Rattle.jx_base.specs.declared.act.Reply.{Reply}
 use Rattle.jx_base.specs.declared.act.Reply.TheVariants as reply
 use Rattle.jx_base.specs.declared.act.Entry.{Entry}
 use Rattle.jx_base.specs.declared.program.System.{System}
-use Rattle.jx_model.specs.Limits.{journal_limit, text_limit, entry_limit}
-use Rattle.jx_model.specs.Histories.{Past, words_of, entry_words, act_words, reply_words, is_full}
+use Rattle.program_model.specs.Limits.{journal_limit, text_limit, entry_limit}
+use Rattle.jx_base.specs.Histories.{Past}
+use Rattle.jx_model.specs.Journal.{words_of, entry_words, act_words, reply_words, is_full}
 use Rattle.jx_model.specs.Permits.{acting_thread, zero_may, zero_may_now, domains_wait, domain_thread, is_ending, is_halt, is_over, next_boot}
 use Rattle.jx_model.specs.Legal.{IsNext, IsAdmittedPast}
 use Rattle.jx_model.specs.WellMade.{IsWellMade, IsBuilt, is_built}
-use Rattle.jx_model.specs.AuditText.{before_last}
+use Rattle.audit_model.specs.AuditText.{before_last}
 use Rattle.audit_text.specs.Rendering.{IsBuiltEntry, IsBuiltReply}
 use Rattle.audit_text.proofs.Sums.{entry_sum}
 

@@ -6,9 +6,9 @@ use Rattle.jx_base.specs.declared.act.Act.{Act}
 use Rattle.jx_base.specs.declared.act.Act.TheVariants as act
 use Rattle.jx_base.specs.declared.act.Entry.{Entry}
 use Rattle.std.proofs.lemmas.List.{reverse-append}
-use Rattle.jx_model.specs.Histories.{words_of}
+use Rattle.jx_model.specs.Journal.{words_of}
 use Rattle.jx_model.specs.WellMade.{IsBuilt, is_built}
-use Rattle.jx_model.specs.AuditText.{before_last, end_word, end_word_of}
+use Rattle.audit_model.specs.AuditText.{before_last, end_word, end_word_of}
 use Rattle.audit_text.specs.Rendering.{IsBuiltEntry}
 use Rattle.audit_text.proofs.Built.{all_of_append}
 

@@ -6,8 +6,8 @@ use Rattle.std.proofs.lemmas.Grind.{flat_map-append}
 use Rattle.jx_base.specs.declared.act.Entry.{Entry}
 use Rattle.jx_base.specs.declared.program.System.{System}
 use Rattle.jx_base.specs.Texts.{after_space, spaced, line}
-use Rattle.jx_model.specs.Audit.{act_word, act_operands, reply_word, reply_operands}
-use Rattle.jx_model.specs.AuditText.{entry_line, entry_lines}
+use Rattle.audit_model.specs.Audit.{act_word, act_operands, reply_word, reply_operands}
+use Rattle.audit_model.specs.AuditText.{entry_line, entry_lines}
 use Rattle.audit_text.specs.Rendering.{actor_text, spaced_act, spaced_reply, IsBuiltEntry}
 
 -- a first word, two more, those of an act, an arrow, and those of a reply

@@ -6,12 +6,13 @@ use Rattle.jx_base.specs.declared.act.Entry.{Entry}
 use Rattle.jx_base.specs.declared.act.History.{History}
 use Rattle.jx_base.specs.declared.program.System.{System}
 use Rattle.jx_base.specs.Texts.{line}
-use Rattle.jx_model.specs.Words.{up_to}
-use Rattle.jx_model.specs.Limits.{granule_limit, journal_limit}
-use Rattle.jx_model.specs.Histories.{Past, words_of, past_of}
+use Rattle.jx_base.specs.Basics.{up_to}
+use Rattle.program_model.specs.Limits.{granule_limit, journal_limit}
+use Rattle.jx_base.specs.Histories.{Past, past_of}
+use Rattle.jx_model.specs.Journal.{words_of}
 use Rattle.jx_model.specs.Domains.{domains_made}
 use Rattle.jx_model.specs.Granules.{used_granules}
-use Rattle.jx_model.specs.AuditText.{entry_lines, console_line, domain_line, total_line, before_last, end_word, state_lines, total_lines, lines_after, audit_text}
+use Rattle.audit_model.specs.AuditText.{entry_lines, console_line, domain_line, total_line, before_last, end_word, state_lines, total_lines, lines_after, audit_text}
 use Rattle.audit_text.specs.Rendering.{IsBuiltEntry}
 use Rattle.audit_text.proofs.Built.{no_calls}
 

@@ -12,15 +12,15 @@ use Rattle.jx_base.specs.declared.act.Reason.{Reason}
 use Rattle.jx_base.specs.declared.program.System.{System}
 use Rattle.jx_base.specs.declared.program.Template.{Template}
 use Rattle.std.proofs.lemmas.Option.{slice_get_read, slice_get_past}
-use Rattle.jx_model.specs.Words.{up_to, or_zero, and_then, mapped, parts_of}
-use Rattle.jx_model.specs.Limits.{domain_limit, granule_cells}
-use Rattle.jx_model.specs.Histories.{Past}
+use Rattle.jx_base.specs.Basics.{up_to, or_zero, and_then, mapped, parts_of}
+use Rattle.program_model.specs.Limits.{domain_limit, granule_cells}
+use Rattle.jx_base.specs.Histories.{Past}
 use Rattle.jx_model.specs.Domains.{domains_made, birth_of, is_birth, makes_domain, is_live, is_made, end_reason, named_template, template_of, heap_place_of}
 use Rattle.jx_model.specs.Granules.{Run, heap_granules, heap_of_template, heap_run, run_if, heap_runs, extent_runs, used_runs, run_granules, used_granules, first_fit}
 use Rattle.jx_model.specs.Replies.{reply_to, new_domain, ◌refuses◌else◌, given_or}
 use Rattle.jx_model.specs.Legal.{IsNext, IsAdmittedPast}
 use Rattle.jx_model.specs.WellMade.{IsBuilt, is_built}
-use Rattle.jx_model.proofs.Numbers.{count_new, count_same}
+use Rattle.jx_base.proofs.NthEntries.{count_new, count_same}
 use Rattle.audit_text.specs.Rendering.{IsBuiltEntry, made_template, total, where_live}
 use Rattle.audit_text.proofs.Births.{each_birth, same_up_to}
 use Rattle.audit_text.proofs.BirthLines.{Agree, born, born-births}

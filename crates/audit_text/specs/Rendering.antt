@@ -11,8 +11,8 @@ use Rattle.jx_base.specs.declared.act.Reply.TheVariants as reply
 use Rattle.jx_base.specs.declared.act.History.{History}
 use Rattle.jx_base.specs.declared.program.System.{System}
 use Rattle.jx_base.specs.Texts.{after_space, spaced}
-use Rattle.jx_model.specs.Audit.{template_text, act_word, act_operands, reply_word, reply_operands}
-use Rattle.jx_model.specs.AuditText.{standing_words}
+use Rattle.audit_model.specs.Audit.{template_text, act_word, act_operands, reply_word, reply_operands}
+use Rattle.audit_model.specs.AuditText.{standing_words}
 use Rattle.jx_model.specs.WellMade.{IsBuilt}
 
 -- the reply is one to an act with code

@@ -2,7 +2,7 @@
 ghost use Rattle.std.specs.Prelude.{reverse};
 ghost use Rattle.std.specs.List.{AllByRecursion};
 ghost use Rattle.jx_base.specs.Puts.{Puts};
-ghost use Rattle.jx_model.specs.AuditText.{audit_text, lines_after, state_lines};
+ghost use Rattle.audit_model.specs.AuditText.{audit_text, lines_after, state_lines};
 ghost use Rattle.jx_model.specs.Legal.{IsAdmitted, IsAdmittedPast};
 ghost use Rattle.audit_text.specs.Rendering.{HasBuiltActs, IsBuiltEntry};
 ghost use Rattle.audit_text.specs.Writes.{Writes, output};

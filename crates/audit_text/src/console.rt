@@ -1,13 +1,13 @@
 //! The lines of what was printed.
 ghost use Rattle.std.specs.List.{flat_map};
-ghost use Rattle.jx_model.specs.AuditText.{console_line};
+ghost use Rattle.audit_model.specs.AuditText.{console_line};
 ghost use Rattle.audit_text.specs.Writes.{Writes, output};
 
 use crate::page::Page;
 use crate::pieces::{Piece, write_line};
 use jx_base::{Act, Entry, Failed, Reply, Sink};
 
-#[tactic(auto, unfolding(crate::specs::Pieces::piece_text, jx_model::specs::AuditText::console_line, jx_model::specs::AuditText::printed))]
+#[tactic(auto, unfolding(crate::specs::Pieces::piece_text, audit_model::specs::AuditText::console_line, audit_model::specs::AuditText::printed))]
 fn write_printed<K: Sink>(entry: &Entry, page: &mut Page, sink: &mut K) -> Result<(), Failed>
     ensures { Writes (console_line entry.now) (output (K.told sink.old) page.old (K.faults sink.old)) (output (K.told sink.new) page.new (K.faults sink.new)) result }
 {

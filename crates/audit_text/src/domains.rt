@@ -1,9 +1,9 @@
 //! The lines of domains.
 ghost use Rattle.std.specs.Prelude.{◌≡◌, reverse};
 ghost use Rattle.std.specs.List.{AllByRecursion, flat_map};
-ghost use Rattle.jx_model.specs.Words.{up_to};
+ghost use Rattle.jx_base.specs.Basics.{up_to};
 ghost use Rattle.jx_model.specs.Domains.{domains_made, ended_by, reason_for, end_reason};
-ghost use Rattle.jx_model.specs.AuditText.{domain_line};
+ghost use Rattle.audit_model.specs.AuditText.{domain_line};
 ghost use Rattle.audit_text.specs.Rendering.{IsBuiltEntry, made_template, own_reason, standing_text, domain_text, whole_line};
 ghost use Rattle.audit_text.specs.Writes.{Writes, output};
 
@@ -62,7 +62,7 @@ pub fn end_reason(entries: &[Entry], domain: u64) -> Option<Reason>
 }
 
 /// Writes how a domain stands, each word behind a space.
-#[tactic(auto, unfolding(crate::specs::Rendering::standing_text, crate::specs::Pieces::piece_text, jx_model::specs::AuditText::standing_words, jx_model::specs::Audit::reason_words))]
+#[tactic(auto, unfolding(crate::specs::Rendering::standing_text, crate::specs::Pieces::piece_text, audit_model::specs::AuditText::standing_words, audit_model::specs::Audit::reason_words))]
 fn write_standing<K: Sink>(why: Option<Reason>, page: &mut Page, sink: &mut K) -> Result<(), Failed>
     ensures { Writes (standing_text why) (output (K.told sink.old) page.old (K.faults sink.old)) (output (K.told sink.new) page.new (K.faults sink.new)) result }
 {

@@ -1,7 +1,7 @@
 //! The lines of entries.
 ghost use Rattle.std.specs.Prelude.{◌≡◌, ◌<◌, ◌^◌, ◌+◌, length};
-ghost use Rattle.jx_model.specs.Audit.{template_text, class_text, refusal_word};
-ghost use Rattle.jx_model.specs.AuditText.{entry_line, entry_lines};
+ghost use Rattle.audit_model.specs.Audit.{template_text, class_text, refusal_word};
+ghost use Rattle.audit_model.specs.AuditText.{entry_line, entry_lines};
 ghost use Rattle.jx_model.specs.WellMade.{IsBuilt};
 ghost use Rattle.audit_text.specs.Rendering.{IsBuiltReply, IsBuiltEntry, actor_text, spaced_act, spaced_reply};
 ghost use Rattle.audit_text.specs.Writes.{Writes, output};
@@ -14,7 +14,7 @@ use crate::pieces::{Piece, write_behind, write_words};
 use jx_base::{Act, ClassId, Entry, Failed, Reason, Refusal, Reply, Sink, System};
 
 /// The name of the template, or none where there is no such.
-#[tactic(auto, unfolding(jx_model::specs::Audit::template_text, jx_model::specs::Lookup::template_at))]
+#[tactic(auto, unfolding(audit_model::specs::Audit::template_text, program_model::specs::Lookup::template_at))]
 pub fn template_name(system: &System, template: u32) -> &[u16]
     ensures { quoted result.now ≡ template_text system.now template }
 {
@@ -24,7 +24,7 @@ pub fn template_name(system: &System, template: u32) -> &[u16]
     }
 }
 
-#[tactic(auto, unfolding(jx_model::specs::Audit::refusal_word))]
+#[tactic(auto, unfolding(audit_model::specs::Audit::refusal_word))]
 fn refusal_word(refusal: Refusal) -> &'static str
     ensures { result.now ≡ refusal_word refusal }
 {
@@ -46,7 +46,7 @@ fn refusal_word(refusal: Refusal) -> &'static str
 }
 
 /// The name of the class, or none where there is no such.
-#[tactic(auto, unfolding(jx_model::specs::Audit::class_text, jx_model::specs::Lookup::class_at))]
+#[tactic(auto, unfolding(audit_model::specs::Audit::class_text, program_model::specs::Lookup::class_at))]
 fn class_name(system: &System, class: ClassId) -> &[u16]
     ensures { quoted result.now ≡ class_text system.now class.0 }
 {
@@ -56,7 +56,7 @@ fn class_name(system: &System, class: ClassId) -> &[u16]
     }
 }
 
-#[tactic(auto, unfolding(crate::specs::Rendering::spaced_act, crate::specs::Pieces::piece_text, jx_model::specs::Audit::act_word, jx_model::specs::Audit::act_operands, jx_model::specs::Audit::exception_words))]
+#[tactic(auto, unfolding(crate::specs::Rendering::spaced_act, crate::specs::Pieces::piece_text, audit_model::specs::Audit::act_word, audit_model::specs::Audit::act_operands, audit_model::specs::Audit::exception_words))]
 fn write_end_thread<K: Sink>(
     system: &System,
     exception: Option<ClassId>,
@@ -78,7 +78,7 @@ fn write_end_thread<K: Sink>(
     }
 }
 
-#[tactic(auto, unfolding(crate::specs::Rendering::spaced_act, crate::specs::Pieces::piece_text, jx_model::specs::Audit::act_word, jx_model::specs::Audit::act_operands, jx_model::specs::Audit::reason_words))]
+#[tactic(auto, unfolding(crate::specs::Rendering::spaced_act, crate::specs::Pieces::piece_text, audit_model::specs::Audit::act_word, audit_model::specs::Audit::act_operands, audit_model::specs::Audit::reason_words))]
 fn write_end<K: Sink>(
     system: &System,
     why: Reason,
@@ -101,7 +101,7 @@ fn write_end<K: Sink>(
 }
 
 /// Writes the words of the act, each behind a space.
-#[tactic(auto, unfolding(crate::specs::Rendering::spaced_act, crate::specs::Pieces::piece_text, jx_model::specs::Audit::act_word, jx_model::specs::Audit::act_operands, jx_model::specs::WellMade::is_built))]
+#[tactic(auto, unfolding(crate::specs::Rendering::spaced_act, crate::specs::Pieces::piece_text, audit_model::specs::Audit::act_word, audit_model::specs::Audit::act_operands, jx_model::specs::WellMade::is_built))]
 fn write_act<K: Sink>(
     system: &System,
     act: &Act,
@@ -135,7 +135,7 @@ fn write_act<K: Sink>(
 }
 
 /// Writes the words of the reply, each behind a space.
-#[tactic(auto, unfolding(crate::specs::Rendering::spaced_reply, crate::specs::Pieces::piece_text, jx_model::specs::Audit::reply_word, jx_model::specs::Audit::reply_operands))]
+#[tactic(auto, unfolding(crate::specs::Rendering::spaced_reply, crate::specs::Pieces::piece_text, audit_model::specs::Audit::reply_word, audit_model::specs::Audit::reply_operands))]
 fn write_reply<K: Sink>(
     system: &System,
     reply: &Reply,

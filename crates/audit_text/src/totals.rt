@@ -1,9 +1,9 @@
 //! The lines of the totals.
 ghost use Rattle.std.specs.Prelude.{◌≡◌, ◌≤◌, ◌<◌, ◌^◌, reverse};
 ghost use Rattle.std.specs.List.{AllByRecursion};
-ghost use Rattle.jx_model.specs.AuditText.{before_last, end_word, total_line, total_lines};
+ghost use Rattle.audit_model.specs.AuditText.{before_last, end_word, total_line, total_lines};
 ghost use Rattle.jx_model.specs.Granules.{heap_granules, used_granules};
-ghost use Rattle.jx_model.specs.Histories.{entry_words, words_of};
+ghost use Rattle.jx_model.specs.Journal.{entry_words, words_of};
 ghost use Rattle.jx_model.specs.Legal.{IsAdmittedPast};
 ghost use Rattle.audit_text.specs.Rendering.{IsBuiltEntry, total, where_live};
 ghost use Rattle.audit_text.specs.Writes.{Writes, output};
@@ -21,7 +21,7 @@ fn wide(n: u32) -> u64
 }
 
 /// The granules of the heap of a domain of the template.
-#[tactic(auto, unfolding(jx_model::specs::Granules::heap_granules, jx_model::specs::Granules::heap_of_template, jx_model::specs::Words::parts_of, jx_model::specs::Words::or_zero, jx_model::specs::Words::mapped, jx_model::specs::Limits::granule_cells))]
+#[tactic(auto, unfolding(jx_model::specs::Granules::heap_granules, jx_model::specs::Granules::heap_of_template, jx_base::specs::Basics::parts_of, jx_base::specs::Basics::or_zero, jx_base::specs::Basics::mapped, program_model::specs::Limits::granule_cells))]
 fn heap_granules(system: &System, template: u32) -> u64
     ensures granules { result ≡ heap_granules system.now template }
     ensures small { result ≤ 2 ^ 29 }
@@ -62,7 +62,7 @@ fn used_granules(system: &System, entries: &[Entry]) -> u64
 }
 
 /// The words that the entry costs.
-#[tactic(auto, unfolding(jx_model::specs::Histories::entry_words, jx_model::specs::Histories::act_words, jx_model::specs::Histories::reply_words))]
+#[tactic(auto, unfolding(jx_model::specs::Journal::entry_words, jx_model::specs::Journal::act_words, jx_model::specs::Journal::reply_words))]
 fn entry_words(entry: &Entry) -> u64
     requires built { IsBuiltEntry entry.now }
     requires small { entry_words entry.now < 2 ^ 32 }
@@ -114,7 +114,7 @@ fn end_word(entries: &[Entry]) -> &'static str
     }
 }
 
-#[tactic(auto, unfolding(jx_model::specs::AuditText::total_line, crate::specs::Pieces::piece_text))]
+#[tactic(auto, unfolding(audit_model::specs::AuditText::total_line, crate::specs::Pieces::piece_text))]
 fn write_total<K: Sink>(
     word: &str,
     used: u64,

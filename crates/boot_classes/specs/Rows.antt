@@ -2,7 +2,7 @@
 use Rattle.std.specs.Prelude.{ℕ, List, map}
 use Rattle.jx_base.specs.declared.program.Class.{Class}
 use Rattle.jx_base.specs.declared.program.Declared.{Declared}
-use Rattle.jx_model.specs.BuiltIn.{throwable_below}
+use Rattle.program_model.specs.BuiltIn.{throwable_below}
 use Rattle.boot_classes.specs.declared.methods.Signature.{Signature}
 use Rattle.boot_classes.specs.declared.throwables.ThrowableRow.{ThrowableRow}
 

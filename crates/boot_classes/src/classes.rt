@@ -1,6 +1,6 @@
 //! The built-in classes in their order.
 ghost use Rattle.std.specs.Prelude.{◌≡◌, IfOk};
-ghost use Rattle.jx_model.specs.BuiltIn.{built_in_table, nucleus_classes, plain_classes};
+ghost use Rattle.program_model.specs.BuiltIn.{built_in_table, nucleus_classes, plain_classes};
 
 use crate::methods::{
     builder_methods, memory_methods, object_methods, string_methods, zero_methods,
@@ -26,7 +26,7 @@ fn plain_classes(alloc: Global) -> Result<Vec<Class>, OutOfMemory>
     Ok(vec![in alloc; object, string, builder]?)
 }
 
-#[tactic(auto, unfolding(jx_model::specs::BuiltIn::nucleus_classes, jx_model::specs::BuiltIn::class_below, jx_model::specs::BuiltIn::built_in_class, jx_model::specs::BuiltIn::object_class))]
+#[tactic(auto, unfolding(program_model::specs::BuiltIn::nucleus_classes, program_model::specs::BuiltIn::class_below, program_model::specs::BuiltIn::built_in_class, program_model::specs::BuiltIn::object_class))]
 fn nucleus_classes(alloc: Global) -> Result<Vec<Class>, OutOfMemory>
     ensures { IfOk result (λ classes. classes.items ≡ nucleus_classes) }
 {
@@ -39,7 +39,7 @@ fn nucleus_classes(alloc: Global) -> Result<Vec<Class>, OutOfMemory>
 }
 
 /// The classes that are there in every system. The place of each is its number.
-#[tactic(auto, unfolding(jx_model::specs::BuiltIn::built_in_table))]
+#[tactic(auto, unfolding(program_model::specs::BuiltIn::built_in_table))]
 pub fn boot(alloc: Global) -> Result<Vec<Class>, OutOfMemory>
     ensures { IfOk result (λ classes. classes.items ≡ built_in_table) }
 {

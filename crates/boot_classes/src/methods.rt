@@ -1,6 +1,6 @@
 //! The methods of the built-in classes.
 ghost use Rattle.std.specs.Prelude.{◌≡◌, IfOk};
-ghost use Rattle.jx_model.specs.BuiltIn.{builder_methods, constructors, memory_methods, object_methods, string_methods, throwable_itself, zero_methods};
+ghost use Rattle.program_model.specs.BuiltIn.{builder_methods, constructors, memory_methods, object_methods, string_methods, throwable_itself, zero_methods};
 ghost use Rattle.boot_classes.specs.Rows.{declared_method, declared_methods};
 
 use jx_base::{Declared, Listed, OutOfMemory, Selector, text_of};
@@ -43,7 +43,7 @@ fn declared_methods(
     Ok(Listed::from_vec(methods))
 }
 
-#[tactic(auto, unfolding(jx_model::specs::BuiltIn::object_methods, jx_model::specs::BuiltIn::method, crate::specs::Rows::declared_method))]
+#[tactic(auto, unfolding(program_model::specs::BuiltIn::object_methods, program_model::specs::BuiltIn::method, crate::specs::Rows::declared_method))]
 pub fn object_methods(alloc: Global) -> Result<Listed<Declared>, OutOfMemory>
     ensures { IfOk result (λ methods. methods ≡ object_methods) }
 {
@@ -54,7 +54,7 @@ pub fn object_methods(alloc: Global) -> Result<Listed<Declared>, OutOfMemory>
     declared_methods(alloc, PUBLIC, &signatures)
 }
 
-#[tactic(auto, unfolding(jx_model::specs::BuiltIn::string_methods, jx_model::specs::BuiltIn::method, crate::specs::Rows::declared_method))]
+#[tactic(auto, unfolding(program_model::specs::BuiltIn::string_methods, program_model::specs::BuiltIn::method, crate::specs::Rows::declared_method))]
 pub fn string_methods(alloc: Global) -> Result<Listed<Declared>, OutOfMemory>
     ensures { IfOk result (λ methods. methods ≡ string_methods) }
 {
@@ -68,7 +68,7 @@ pub fn string_methods(alloc: Global) -> Result<Listed<Declared>, OutOfMemory>
     declared_methods(alloc, PUBLIC, &signatures)
 }
 
-#[tactic(auto, unfolding(jx_model::specs::BuiltIn::builder_methods, jx_model::specs::BuiltIn::method, crate::specs::Rows::declared_method))]
+#[tactic(auto, unfolding(program_model::specs::BuiltIn::builder_methods, program_model::specs::BuiltIn::method, crate::specs::Rows::declared_method))]
 pub fn builder_methods(alloc: Global) -> Result<Listed<Declared>, OutOfMemory>
     ensures { IfOk result (λ methods. methods ≡ builder_methods) }
 {
@@ -84,7 +84,7 @@ pub fn builder_methods(alloc: Global) -> Result<Listed<Declared>, OutOfMemory>
     declared_methods(alloc, PUBLIC, &signatures)
 }
 
-#[tactic(auto, unfolding(jx_model::specs::BuiltIn::constructors, jx_model::specs::BuiltIn::method, crate::specs::Rows::declared_method))]
+#[tactic(auto, unfolding(program_model::specs::BuiltIn::constructors, program_model::specs::BuiltIn::method, crate::specs::Rows::declared_method))]
 pub fn constructors(alloc: Global) -> Result<Listed<Declared>, OutOfMemory>
     ensures { IfOk result (λ methods. methods ≡ constructors) }
 {
@@ -95,7 +95,7 @@ pub fn constructors(alloc: Global) -> Result<Listed<Declared>, OutOfMemory>
     declared_methods(alloc, PUBLIC, &signatures)
 }
 
-#[tactic(auto, unfolding(jx_model::specs::BuiltIn::throwable_itself, jx_model::specs::BuiltIn::constructors, jx_model::specs::BuiltIn::method, crate::specs::Rows::declared_method))]
+#[tactic(auto, unfolding(program_model::specs::BuiltIn::throwable_itself, program_model::specs::BuiltIn::constructors, program_model::specs::BuiltIn::method, crate::specs::Rows::declared_method))]
 pub fn throwable_methods(alloc: Global) -> Result<Listed<Declared>, OutOfMemory>
     ensures { IfOk result (λ methods. methods ≡ throwable_itself.methods) }
 {
@@ -107,7 +107,7 @@ pub fn throwable_methods(alloc: Global) -> Result<Listed<Declared>, OutOfMemory>
     declared_methods(alloc, PUBLIC, &signatures)
 }
 
-#[tactic(auto, unfolding(jx_model::specs::BuiltIn::zero_methods, jx_model::specs::BuiltIn::static_method, crate::specs::Rows::declared_method))]
+#[tactic(auto, unfolding(program_model::specs::BuiltIn::zero_methods, program_model::specs::BuiltIn::static_method, crate::specs::Rows::declared_method))]
 pub fn zero_methods(alloc: Global) -> Result<Listed<Declared>, OutOfMemory>
     ensures { IfOk result (λ methods. methods ≡ zero_methods) }
 {
@@ -128,7 +128,7 @@ pub fn zero_methods(alloc: Global) -> Result<Listed<Declared>, OutOfMemory>
     declared_methods(alloc, PUBLIC_STATIC, &signatures)
 }
 
-#[tactic(auto, unfolding(jx_model::specs::BuiltIn::memory_methods, jx_model::specs::BuiltIn::method, crate::specs::Rows::declared_method))]
+#[tactic(auto, unfolding(program_model::specs::BuiltIn::memory_methods, program_model::specs::BuiltIn::method, crate::specs::Rows::declared_method))]
 pub fn memory_methods(alloc: Global) -> Result<Listed<Declared>, OutOfMemory>
     ensures { IfOk result (λ methods. methods ≡ memory_methods) }
 {

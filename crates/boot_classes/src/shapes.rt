@@ -1,11 +1,11 @@
 //! What the built-in classes are made of.
 ghost use Rattle.std.specs.Prelude.{◌≡◌, [], ◌∷◌, None, IfOk};
-ghost use Rattle.jx_model.specs.BuiltIn.{built_in_class, class_below, text_field};
+ghost use Rattle.program_model.specs.BuiltIn.{built_in_class, class_below, text_field};
 
 use jx_base::{Class, ClassId, Declared, Field, Listed, OutOfMemory, text_of};
 use std::alloc::Global;
 
-#[tactic(auto, unfolding(jx_model::specs::BuiltIn::text_field))]
+#[tactic(auto, unfolding(program_model::specs::BuiltIn::text_field))]
 pub fn text_field(alloc: Global, owner: ClassId, name: &str) -> Result<Field, OutOfMemory>
     ensures { IfOk result (λ field. field ≡ text_field owner.0 name.now) }
 {
@@ -16,7 +16,7 @@ pub fn text_field(alloc: Global, owner: ClassId, name: &str) -> Result<Field, Ou
     })
 }
 
-#[tactic(auto, unfolding(jx_model::specs::BuiltIn::built_in_class))]
+#[tactic(auto, unfolding(program_model::specs::BuiltIn::built_in_class))]
 fn built_in_class(
     alloc: Global,
     name: &str,
@@ -49,7 +49,7 @@ pub fn root_class(
     built_in_class(alloc, name, None, Vec::new(alloc), methods)
 }
 
-#[tactic(auto, unfolding(jx_model::specs::BuiltIn::class_below))]
+#[tactic(auto, unfolding(program_model::specs::BuiltIn::class_below))]
 pub fn class_below(
     alloc: Global,
     parent: ClassId,
@@ -61,7 +61,7 @@ pub fn class_below(
     built_in_class(alloc, name, Some(parent), Vec::new(alloc), methods)
 }
 
-#[tactic(auto, unfolding(jx_model::specs::BuiltIn::class_below))]
+#[tactic(auto, unfolding(program_model::specs::BuiltIn::class_below))]
 pub fn class_with_field(
     alloc: Global,
     parent: ClassId,

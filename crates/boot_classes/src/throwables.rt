@@ -1,6 +1,6 @@
 //! The classes of objects that can be thrown.
 ghost use Rattle.std.specs.Prelude.{◌≡◌, IfOk};
-ghost use Rattle.jx_model.specs.BuiltIn.{language_throwables, nucleus_exceptions, throwable_below, throwable_itself};
+ghost use Rattle.program_model.specs.BuiltIn.{language_throwables, nucleus_exceptions, throwable_below, throwable_itself};
 ghost use Rattle.boot_classes.specs.Rows.{throwable_of, throwables_of};
 
 use crate::methods::{constructors, throwable_methods};
@@ -15,7 +15,7 @@ use std::alloc::Global;
 #[derive(Drop)]
 struct ThrowableRow(ClassId, &'static str);
 
-#[tactic(auto, unfolding(jx_model::specs::BuiltIn::throwable_itself, jx_model::specs::BuiltIn::throwable_below, jx_model::specs::BuiltIn::class_below, jx_model::specs::BuiltIn::built_in_class, jx_model::specs::BuiltIn::object_class, jx_model::specs::BuiltIn::throwable_class))]
+#[tactic(auto, unfolding(program_model::specs::BuiltIn::throwable_itself, program_model::specs::BuiltIn::throwable_below, program_model::specs::BuiltIn::class_below, program_model::specs::BuiltIn::built_in_class, program_model::specs::BuiltIn::object_class, program_model::specs::BuiltIn::throwable_class))]
 fn throwable_itself(alloc: Global) -> Result<Class, OutOfMemory>
     ensures { IfOk result (λ class. class ≡ throwable_itself) }
 {
@@ -29,7 +29,7 @@ fn throwable_itself(alloc: Global) -> Result<Class, OutOfMemory>
     )
 }
 
-#[tactic(auto, unfolding(crate::specs::Rows::throwable_of, jx_model::specs::BuiltIn::throwable_below, jx_model::specs::BuiltIn::throwable_class))]
+#[tactic(auto, unfolding(crate::specs::Rows::throwable_of, program_model::specs::BuiltIn::throwable_below, program_model::specs::BuiltIn::throwable_class))]
 fn throwable(alloc: Global, row: &ThrowableRow) -> Result<Class, OutOfMemory>
     ensures { IfOk result (λ class. class ≡ throwable_of row.now) }
 {
@@ -74,7 +74,7 @@ pub fn language_throwables(alloc: Global) -> Result<Vec<Class>, OutOfMemory>
     Ok(classes)
 }
 
-#[tactic(auto, unfolding(crate::specs::Rows::throwable_of, jx_model::specs::BuiltIn::nucleus_exceptions, jx_model::specs::BuiltIn::runtime_exception))]
+#[tactic(auto, unfolding(crate::specs::Rows::throwable_of, program_model::specs::BuiltIn::nucleus_exceptions, program_model::specs::BuiltIn::runtime_exception))]
 pub fn nucleus_exceptions(alloc: Global) -> Result<Vec<Class>, OutOfMemory>
     ensures { IfOk result (λ classes. classes.items ≡ nucleus_exceptions) }
 {

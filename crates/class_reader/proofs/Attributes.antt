@@ -4,8 +4,8 @@ use Rattle.std.specs.Prelude.{if◌then◌else◌}
 use Rattle.jx_base.specs.declared.class_file.Code.{Code}
 use Rattle.jx_base.specs.declared.class_file.Constant.{Constant}
 use Rattle.jx_base.specs.declared.fault.ClassFault.{ClassFault}
-use Rattle.jx_base.specs.Parts.{onward}
-use Rattle.jx_base.specs.Members.{method_attributes}
+use Rattle.class_grammar.specs.Parts.{onward}
+use Rattle.class_grammar.specs.Members.{method_attributes}
 use Rattle.class_reader.specs.declared.error.ReadFault.{ReadFault}
 use Rattle.class_reader.specs.declared.error.ReadFault.TheVariants as fault
 use Rattle.class_reader.specs.Attributes.{method_attribute}

@@ -9,11 +9,11 @@ use Rattle.jx_base.specs.declared.class_file.Constant.{Constant}
 use Rattle.jx_base.specs.declared.constant_tag.ConstantTag.{ConstantTag}
 use Rattle.jx_base.specs.declared.constant_tag.ConstantTag.TheVariants as tag
 use Rattle.jx_base.specs.declared.fault.ClassFault.{ClassFault}
-use Rattle.jx_base.specs.Constants.{class_fault, index_pair, utf8_body, skipped_body, constant_body, constant_part, constants_part}
-use Rattle.jx_base.specs.Members.{name_part, class_index, skipped_attribute, skipped_attributes, range_part, table_part, code_part, code_body, method_attributes, method_part, field_part}
-use Rattle.jx_base.specs.ClassGrammar.{version_part, pool_part, interface_part, heading_part, fields_part, methods_part, class_file_part, IsClassFile, IsClassFault}
-use Rattle.jx_base.proofs.PartLaws.{IsLawful, Tells, lawful-bind, lawful-then, lawful-either, lawful-done, lawful-demand, lawful-no_fault, lawful-known, lawful-meant, lawful-room, lawful-here, lawful-at_end, lawful-bytes_of, lawful-number, lawful-repeated, lawful-enclosed}
-use Rattle.jx_base.specs.ModifiedUtf8.{IsModifiedUtf8, text_of_bytes}
+use Rattle.class_grammar.specs.Constants.{class_fault, index_pair, utf8_body, skipped_body, constant_body, constant_part, constants_part}
+use Rattle.class_grammar.specs.Members.{name_part, class_index, skipped_attribute, skipped_attributes, range_part, table_part, code_part, code_body, method_attributes, method_part, field_part}
+use Rattle.class_grammar.specs.ClassGrammar.{version_part, pool_part, interface_part, heading_part, fields_part, methods_part, class_file_part, IsClassFile, IsClassFault}
+use Rattle.class_grammar.proofs.PartLaws.{IsLawful, Tells, lawful-bind, lawful-then, lawful-either, lawful-done, lawful-demand, lawful-no_fault, lawful-known, lawful-meant, lawful-room, lawful-here, lawful-at_end, lawful-bytes_of, lawful-number, lawful-repeated, lawful-enclosed}
+use Rattle.class_grammar.specs.ModifiedUtf8.{IsModifiedUtf8, text_of_bytes}
 use Rattle.class_reader.specs.declared.error.ReadFault.{ReadFault}
 use Rattle.class_reader.specs.declared.error.ReadFault.TheVariants as fault
 use Rattle.class_reader.specs.Classes.{IsFaultOf, IsReadAs, IsRefusedFor}

@@ -2,7 +2,7 @@
 use Rattle.std.proofs.Common.{◌≡◌, ℕ, List, [], ◌∷◌, length, true, false, Ok, Err, refl}
 use Rattle.std.specs.Prelude.{◌==◌}
 use Rattle.jx_base.specs.declared.fault.ClassFault.{ClassFault}
-use Rattle.jx_base.specs.Parts.{at_end}
+use Rattle.class_grammar.specs.Parts.{at_end}
 use Rattle.class_texts.proofs.Tests.{not_nil}
 
 pub all_read : (f : ClassFault) (bytes : List ℕ) → (length bytes == 0) ≡ true → (at_end f).reads bytes ≡ Ok (tt, [])

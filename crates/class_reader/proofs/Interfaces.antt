@@ -2,9 +2,9 @@
 use Rattle.std.proofs.Common.{◌≡◌, ℕ, List, [], ◌∷◌, Result, Ok, ap}
 use Rattle.jx_base.specs.declared.class_file.Constant.{Constant}
 use Rattle.jx_base.specs.declared.fault.ClassFault.{ClassFault}
-use Rattle.jx_base.specs.ClassGrammar.{interface_part}
-use Rattle.jx_base.specs.Members.{class_index}
-use Rattle.jx_base.specs.Parts.{onward}
+use Rattle.class_grammar.specs.ClassGrammar.{interface_part}
+use Rattle.class_grammar.specs.Members.{class_index}
+use Rattle.class_grammar.specs.Parts.{onward}
 use Rattle.class_reader.specs.declared.error.ReadFault.{ReadFault}
 use Rattle.class_reader.specs.declared.error.ReadFault.TheVariants as fault
 use Rattle.class_reader.specs.Reading.{Fails}

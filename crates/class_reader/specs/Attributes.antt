@@ -1,9 +1,9 @@
 -- One attribute of a method (JVMS 4.7), where the code that was found so far is given.
 use Rattle.std.specs.Prelude.{ℕ, Bool, ◌&&◌, List, Option, Some, is_none}
 use Rattle.std.specs.Int.{w32}
-use Rattle.jx_base.specs.Parts.{Part, ◌>>=◌, ◌>>◌, either, done, demand, room, here, bytes_of, number}
-use Rattle.jx_base.specs.Constants.{class_fault, cut_off}
-use Rattle.jx_base.specs.Members.{name_part, is_code_name, code_body}
+use Rattle.class_grammar.specs.Parts.{Part, ◌>>=◌, ◌>>◌, either, done, demand, room, here, bytes_of, number}
+use Rattle.class_grammar.specs.Constants.{class_fault, cut_off}
+use Rattle.class_grammar.specs.Members.{name_part, is_code_name, code_body}
 use Rattle.jx_base.specs.declared.class_file.Code.{Code}
 use Rattle.jx_base.specs.declared.class_file.Constant.{Constant}
 use Rattle.jx_base.specs.declared.fault.ClassFault.{ClassFault}

@@ -1,8 +1,8 @@
 -- What a reader of class files answers.
 use Rattle.std.specs.Prelude.{◌≡◌, ℕ, List, Result, Ok, Err}
-use Rattle.jx_base.specs.ClassGrammar.{Version, IsClassFault}
-use Rattle.jx_base.specs.ClassGrammar as grammar
-use Rattle.jx_base.specs.Constants.{class_fault}
+use Rattle.class_grammar.specs.ClassGrammar.{Version, IsClassFault}
+use Rattle.class_grammar.specs.ClassGrammar as grammar
+use Rattle.class_grammar.specs.Constants.{class_fault}
 use Rattle.jx_base.specs.declared.class_file.ClassFile.{ClassFile}
 use Rattle.jx_base.specs.declared.fault.ClassKind.{ClassKind}
 use Rattle.class_reader.specs.declared.class.Heading.{Heading}

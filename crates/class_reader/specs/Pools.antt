@@ -1,6 +1,6 @@
 -- The indices and the bytes that constants take up.
 use Rattle.std.specs.Prelude.{ℕ, ◌+◌, List, [], ◌∷◌, if◌then◌else◌}
-use Rattle.jx_base.specs.Constants.{constant_length, is_double_width}
+use Rattle.class_grammar.specs.Constants.{constant_length, is_double_width}
 use Rattle.jx_base.specs.declared.class_file.Constant.{Constant}
 use Rattle.jx_base.specs.declared.class_file.Constant.TheVariants as constant
 

@@ -2,10 +2,10 @@
 ghost use Rattle.std.specs.Prelude.{◌≡◌, ◌≤◌, ◌-◌, ◌^◌, ℕ, [], ◌∷◌, length, IfOk, IfErr};
 ghost use Rattle.class_reader.specs.Classes.{version, heading, IsFaultOf, IsReadAs, IsRefusedFor};
 ghost use Rattle.class_reader.specs.Reading.{Gives};
-ghost use Rattle.jx_base.specs.ClassGrammar.{version_part, interface_part, heading_part, class_file_part, IsClassFile, IsClassFault};
-ghost use Rattle.jx_base.specs.Constants.{class_fault};
-ghost use Rattle.jx_base.specs.Flags.{is_interface_flag};
-ghost use Rattle.jx_base.specs.Parts.{at_end, repeated};
+ghost use Rattle.class_grammar.specs.ClassGrammar.{version_part, interface_part, heading_part, class_file_part, IsClassFile, IsClassFault};
+ghost use Rattle.class_grammar.specs.Constants.{class_fault};
+ghost use Rattle.class_grammar.specs.Flags.{is_interface_flag};
+ghost use Rattle.class_grammar.specs.Parts.{at_end, repeated};
 ghost use Rattle.jx_base.specs.declared.class_file.ClassFile.{ClassFile};
 ghost use Rattle.jx_base.specs.declared.fault.ClassKind.{ClassKind};
 
@@ -18,7 +18,7 @@ use jx_base::{ClassFile, ClassKind, Constant, Listed};
 use std::alloc::Global;
 
 /// The minor and the major version, which are behind the magic number.
-#[tactic(auto, unfolding(jx_base::specs::ClassGrammar::version_part))]
+#[tactic(auto, unfolding(class_grammar::specs::ClassGrammar::version_part))]
 fn version_at(size: u32, bytes: &[u8]) -> Result<(u16, u16, &[u8]), ReadFault>
     ensures read { Gives (λ x. (version x.0 x.1, x.2.now)) result ((version_part size).reads bytes.now) }
     ensures shorter { IfOk result (λ x. length x.2.now ≤ length bytes.now) }
@@ -66,7 +66,7 @@ fn interfaces_at<'b>(
     Ok((Listed::from_vec(interfaces), rest))
 }
 
-#[tactic(auto, unfolding(jx_base::specs::ClassGrammar::heading_part))]
+#[tactic(auto, unfolding(class_grammar::specs::ClassGrammar::heading_part))]
 fn heading_at<'b>(
     alloc: Global,
     size: u32,
@@ -91,7 +91,7 @@ fn heading_at<'b>(
     Ok((heading, rest))
 }
 
-#[tactic(auto, unfolding(jx_base::specs::Flags::is_interface_flag))]
+#[tactic(auto, unfolding(class_grammar::specs::Flags::is_interface_flag))]
 fn is_interface(flags: u16) -> bool
     ensures { result ≡ is_interface_flag flags }
 {
@@ -111,7 +111,7 @@ fn ends_at(size: u32, bytes: &[u8]) -> Result<(), ReadFault>
     }
 }
 
-#[tactic(auto, unfolding(jx_base::specs::ClassGrammar::class_file_part, jx_base::specs::ClassGrammar::fields_part, jx_base::specs::ClassGrammar::methods_part))]
+#[tactic(auto, unfolding(class_grammar::specs::ClassGrammar::class_file_part, class_grammar::specs::ClassGrammar::fields_part, class_grammar::specs::ClassGrammar::methods_part))]
 fn class_at(alloc: Global, size: u32, bytes: &[u8]) -> Result<ClassFile, ReadFault>
     requires fits { length bytes.now ≤ size }
     requires small { size ≤ 2 ^ 31 }

@@ -2,8 +2,8 @@
 //! each fault of its own lengths is `cut`.
 ghost use Rattle.std.specs.Prelude.{◌≡◌, ◌≤◌, ◌+◌, ◌<◌, ◌^◌, [], ◌∷◌, length, IfOk};
 ghost use Rattle.class_reader.specs.Reading.{Gives};
-ghost use Rattle.jx_base.specs.Parts.{repeated};
-ghost use Rattle.jx_base.specs.Members.{catches_class, range_part, code_part, code_body};
+ghost use Rattle.class_grammar.specs.Parts.{repeated};
+ghost use Rattle.class_grammar.specs.Members.{catches_class, range_part, code_part, code_body};
 
 use crate::error::{ReadFault, bad, class_fault};
 use crate::names::{is_class_named, skip_attributes};
@@ -11,14 +11,14 @@ use crate::numbers::{bytes_at, place, u16_at, u32_at};
 use jx_base::{ClassFault, ClassKind, Code, Constant, Listed, Range};
 use std::alloc::Global;
 
-#[tactic(auto, unfolding(jx_base::specs::Members::catches_class))]
+#[tactic(auto, unfolding(class_grammar::specs::Members::catches_class))]
 fn is_caught(constants: &[Constant], index: u16) -> bool
     ensures { result ≡ catches_class constants.now index }
 {
     index == 0 || is_class_named(constants, index)
 }
 
-#[tactic(auto, unfolding(jx_base::specs::Members::range_part))]
+#[tactic(auto, unfolding(class_grammar::specs::Members::range_part))]
 fn range_at<'b>(
     size: u32,
     cut: ClassFault,
@@ -69,7 +69,7 @@ fn ranges_at<'b>(
     Ok((Listed::from_vec(ranges), rest))
 }
 
-#[tactic(auto, unfolding(jx_base::specs::Members::code_part, jx_base::specs::Members::table_part))]
+#[tactic(auto, unfolding(class_grammar::specs::Members::code_part, class_grammar::specs::Members::table_part))]
 fn code_at<'b>(
     alloc: Global,
     size: u32,
@@ -102,7 +102,7 @@ fn code_at<'b>(
 }
 
 /// A Code that takes up `n` bytes; `at` is the place of its attribute.
-#[tactic(auto, unfolding(jx_base::specs::Members::code_body))]
+#[tactic(auto, unfolding(class_grammar::specs::Members::code_body))]
 pub fn code_body_at<'b>(
     alloc: Global,
     size: u32,

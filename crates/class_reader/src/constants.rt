@@ -1,7 +1,7 @@
 //! One constant (JVMS 4.4).
 ghost use Rattle.std.specs.Prelude.{◌≡◌, ◌≤◌, ◌<◌, ◌^◌, ◌+◌, length, IfOk};
 ghost use Rattle.class_reader.specs.Reading.{Gives};
-ghost use Rattle.jx_base.specs.Constants.{tag_of, index_pair, utf8_body, skipped_body, constant_body, constant_part, constant_length, is_double_width, skipped_length};
+ghost use Rattle.class_grammar.specs.Constants.{tag_of, index_pair, utf8_body, skipped_body, constant_body, constant_part, constant_length, is_double_width, skipped_length};
 
 use crate::error::{ReadFault, bad, cut_off_fault};
 use crate::numbers::{bytes_at, place, u8_at, u16_at, u32_at, u64_at};
@@ -32,7 +32,7 @@ static TAGS: [Option<ConstantTag>; 19] = [
     Some(ConstantTag::InvokeDynamic),
 ];
 
-#[tactic(auto, unfolding(jx_base::specs::Constants::tag_of, jx_base::specs::Constants::constant_tags))]
+#[tactic(auto, unfolding(class_grammar::specs::Constants::tag_of, class_grammar::specs::Constants::constant_tags))]
 fn tag_numbered(number: u8) -> Option<ConstantTag>
     ensures { result ≡ tag_of number }
 {
@@ -42,7 +42,7 @@ fn tag_numbered(number: u8) -> Option<ConstantTag>
     }
 }
 
-#[tactic(auto, unfolding(jx_base::specs::Constants::index_pair))]
+#[tactic(auto, unfolding(class_grammar::specs::Constants::index_pair))]
 fn index_pair_at(size: u32, bytes: &[u8]) -> Result<(u16, u16, &[u8]), ReadFault>
     ensures read { Gives (λ x. ((x.0, x.1), x.2.now)) result ((index_pair size).reads bytes.now) }
     ensures long { IfOk result (λ x. length bytes.now ≡ 4 + length x.2.now) }
@@ -52,7 +52,7 @@ fn index_pair_at(size: u32, bytes: &[u8]) -> Result<(u16, u16, &[u8]), ReadFault
     Ok((first, second, rest))
 }
 
-#[tactic(auto, unfolding(jx_base::specs::Constants::utf8_body, jx_base::specs::Constants::constant_length))]
+#[tactic(auto, unfolding(class_grammar::specs::Constants::utf8_body, class_grammar::specs::Constants::constant_length))]
 fn utf8_at(alloc: Global, size: u32, at: u32, bytes: &[u8]) -> Result<(Constant, &[u8]), ReadFault>
     ensures read { Gives (λ x. (x.0, x.1.now)) result ((utf8_body size at).reads bytes.now) }
     ensures long { IfOk result (λ x. 1 + length bytes.now ≡ constant_length x.0 + length x.1.now) }
@@ -65,7 +65,7 @@ fn utf8_at(alloc: Global, size: u32, at: u32, bytes: &[u8]) -> Result<(Constant,
     }
 }
 
-#[tactic(auto, unfolding(jx_base::specs::Constants::skipped_body))]
+#[tactic(auto, unfolding(class_grammar::specs::Constants::skipped_body))]
 fn skipped_at(size: u32, number: u8, n: usize, bytes: &[u8]) -> Result<(Constant, &[u8]), ReadFault>
     ensures read { Gives (λ x. (x.0, x.1.now)) result ((skipped_body size number n).reads bytes.now) }
     ensures long { IfOk result (λ x. length bytes.now ≡ n + length x.1.now) }
@@ -76,7 +76,7 @@ fn skipped_at(size: u32, number: u8, n: usize, bytes: &[u8]) -> Result<(Constant
 }
 
 /// What stands behind a tag, which is at a place.
-#[tactic(auto, unfolding(jx_base::specs::Constants::constant_body, jx_base::specs::Constants::constant_length, jx_base::specs::Constants::skipped_length))]
+#[tactic(auto, unfolding(class_grammar::specs::Constants::constant_body, class_grammar::specs::Constants::constant_length, class_grammar::specs::Constants::skipped_length))]
 fn body_at(
     alloc: Global,
     size: u32,
@@ -130,7 +130,7 @@ fn body_at(
 }
 
 /// A constant: its tag, and what stands behind it.
-#[tactic(auto, unfolding(jx_base::specs::Constants::constant_part))]
+#[tactic(auto, unfolding(class_grammar::specs::Constants::constant_part))]
 pub fn constant_at(alloc: Global, size: u32, bytes: &[u8]) -> Result<(Constant, &[u8]), ReadFault>
     requires { length bytes.now ≤ size }
     ensures read { Gives (λ x. (x.0, x.1.now)) result ((constant_part size).reads bytes.now) }
@@ -145,7 +145,7 @@ pub fn constant_at(alloc: Global, size: u32, bytes: &[u8]) -> Result<(Constant, 
 }
 
 /// Whether a constant takes up two indices.
-#[tactic(auto, unfolding(jx_base::specs::Constants::is_double_width))]
+#[tactic(auto, unfolding(class_grammar::specs::Constants::is_double_width))]
 pub fn is_wide(constant: &Constant) -> bool
     ensures { result ≡ is_double_width constant.now }
 {
@@ -156,7 +156,7 @@ pub fn is_wide(constant: &Constant) -> bool
     }
 }
 
-#[tactic(auto, unfolding(jx_base::specs::Constants::skipped_length))]
+#[tactic(auto, unfolding(class_grammar::specs::Constants::skipped_length))]
 fn length_of_skipped(number: u8) -> u32
     ensures { result ≡ skipped_length number }
 {
@@ -169,7 +169,7 @@ fn length_of_skipped(number: u8) -> u32
 }
 
 /// How many bytes a constant takes up, its tag included.
-#[tactic(auto, unfolding(jx_base::specs::Constants::constant_length))]
+#[tactic(auto, unfolding(class_grammar::specs::Constants::constant_length))]
 pub fn length_of(constant: &Constant) -> u32
     requires { constant_length constant.now < 2 ^ 32 }
     ensures { result ≡ constant_length constant.now }

@@ -1,7 +1,7 @@
 //! Why bytes aren't read as a class file.
 ghost use Rattle.std.specs.Prelude.{◌≡◌};
 ghost use Rattle.class_reader.specs.declared.error.ReadFault.TheVariants.{Bad, OutOfMemory};
-ghost use Rattle.jx_base.specs.Constants.{class_fault, cut_off};
+ghost use Rattle.class_grammar.specs.Constants.{class_fault, cut_off};
 
 use jx_base::{ClassFault, ClassKind};
 use std::alloc::{AllocError, AllocFailed};

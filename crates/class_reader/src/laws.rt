@@ -1,8 +1,8 @@
 //! Bytes are one class file or none, in one way.
 ghost use Rattle.std.specs.Prelude.{◌≡◌, ℕ, List};
-ghost use Rattle.jx_base.specs.ClassGrammar.{IsClassFile, IsClassFault};
-ghost use Rattle.jx_base.specs.Constants.{class_fault};
-ghost use Rattle.jx_base.specs.ModifiedUtf8.{IsModifiedUtf8};
+ghost use Rattle.class_grammar.specs.ClassGrammar.{IsClassFile, IsClassFault};
+ghost use Rattle.class_grammar.specs.Constants.{class_fault};
+ghost use Rattle.class_grammar.specs.ModifiedUtf8.{IsModifiedUtf8};
 ghost use Rattle.jx_base.specs.declared.class_file.ClassFile.{ClassFile};
 ghost use Rattle.jx_base.specs.declared.fault.ClassKind.{ClassKind};
 

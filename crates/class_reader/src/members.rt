@@ -3,9 +3,9 @@ ghost use Rattle.std.specs.Prelude.{◌≡◌, ◌≤◌, ◌<◌, ◌^◌, ◌&
 ghost use Rattle.std.specs.Str.{bytes_eq};
 ghost use Rattle.class_reader.specs.Attributes.{method_attribute};
 ghost use Rattle.class_reader.specs.Reading.{Gives};
-ghost use Rattle.jx_base.specs.Flags.{has_flag, is_abstract, is_native, is_synchronized};
-ghost use Rattle.jx_base.specs.Members.{field_part, method_attributes, method_part};
-ghost use Rattle.jx_base.specs.Parts.{repeated};
+ghost use Rattle.class_grammar.specs.Flags.{has_flag, is_abstract, is_native, is_synchronized};
+ghost use Rattle.class_grammar.specs.Members.{field_part, method_attributes, method_part};
+ghost use Rattle.class_grammar.specs.Parts.{repeated};
 
 use crate::code::code_body_at;
 use crate::error::{ReadFault, bad, cut_off_fault};
@@ -15,7 +15,7 @@ use class_texts::{is_floating_field, is_floating_method};
 use jx_base::{ClassKind, Code, Constant, Listed, Member, OutOfMemory, Text};
 use std::alloc::Global;
 
-#[tactic(auto, unfolding(jx_base::specs::Flags::has_flag))]
+#[tactic(auto, unfolding(class_grammar::specs::Flags::has_flag))]
 pub fn has_flag(flag: u16, flags: u16) -> bool
     requires { 0 < flag }
     ensures { result ≡ has_flag flag flags }
@@ -23,7 +23,7 @@ pub fn has_flag(flag: u16, flags: u16) -> bool
     flags / flag % 2 == 1
 }
 
-#[tactic(auto, unfolding(jx_base::specs::Flags::is_abstract))]
+#[tactic(auto, unfolding(class_grammar::specs::Flags::is_abstract))]
 fn is_abstract(flags: u16) -> bool
     ensures { result ≡ is_abstract flags }
 {
@@ -31,7 +31,7 @@ fn is_abstract(flags: u16) -> bool
 }
 
 /// Whether the profile has such a method, apart from its types.
-#[tactic(auto, unfolding(jx_base::specs::Flags::is_native, jx_base::specs::Flags::is_synchronized))]
+#[tactic(auto, unfolding(class_grammar::specs::Flags::is_native, class_grammar::specs::Flags::is_synchronized))]
 fn is_supported(interface: bool, flags: u16, name: &[u16]) -> bool
     ensures { result ≡ (not (is_native flags) && not (is_synchronized flags) && (not interface || is_abstract flags || bytes_eq name.now (codes "<clinit>"))) }
 {
@@ -47,7 +47,7 @@ fn copy(alloc: Global, text: &[u16]) -> Result<Text, OutOfMemory>
 }
 
 /// A field, with its attributes passed over.
-#[tactic(auto, unfolding(jx_base::specs::Members::field_part))]
+#[tactic(auto, unfolding(class_grammar::specs::Members::field_part))]
 fn field_at<'b>(
     alloc: Global,
     size: u32,
@@ -134,7 +134,7 @@ fn attributes_at<'b>(
 }
 
 /// A method, with its code.
-#[tactic(auto, unfolding(jx_base::specs::Members::method_part, jx_base::specs::Members::is_supported_method))]
+#[tactic(auto, unfolding(class_grammar::specs::Members::method_part, class_grammar::specs::Members::is_supported_method))]
 fn method_at<'b>(
     alloc: Global,
     size: u32,

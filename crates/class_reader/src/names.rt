@@ -2,16 +2,16 @@
 ghost use Rattle.std.specs.Prelude.{◌≡◌, ◌≤◌, [], length, IfOk, option_map, codes};
 ghost use Rattle.std.specs.Str.{bytes_eq};
 ghost use Rattle.class_reader.specs.Reading.{Gives};
-ghost use Rattle.jx_base.specs.Parts.{repeated};
-ghost use Rattle.jx_base.specs.Constants.{text_at, names_class, names_text, names_member};
-ghost use Rattle.jx_base.specs.Members.{is_code_name, name_part, class_index, skipped_attribute, skipped_attributes};
+ghost use Rattle.class_grammar.specs.Parts.{repeated};
+ghost use Rattle.class_grammar.specs.Constants.{text_at, names_class, names_text, names_member};
+ghost use Rattle.class_grammar.specs.Members.{is_code_name, name_part, class_index, skipped_attribute, skipped_attributes};
 
 use crate::error::{ReadFault, bad, cut_off_fault};
 use crate::numbers::{bytes_at, place, u16_at, u32_at};
 use jx_base::{ClassFault, ClassKind, Constant};
 
 /// The text at an index, if a Utf8 is there.
-#[tactic(auto, unfolding(jx_base::specs::Constants::text_at, jx_base::specs::Constants::text_of_constant))]
+#[tactic(auto, unfolding(class_grammar::specs::Constants::text_at, class_grammar::specs::Constants::text_of_constant))]
 fn text_named(constants: &[Constant], index: u16) -> Option<&[u16]>
     ensures { option_map (λ text. text.now) result ≡ text_at constants.now index }
 {
@@ -22,7 +22,7 @@ fn text_named(constants: &[Constant], index: u16) -> Option<&[u16]>
 }
 
 /// Whether a Class is at the index.
-#[tactic(auto, unfolding(jx_base::specs::Constants::names_class, jx_base::specs::Constants::is_class))]
+#[tactic(auto, unfolding(class_grammar::specs::Constants::names_class, class_grammar::specs::Constants::is_class))]
 pub fn is_class_named(constants: &[Constant], index: u16) -> bool
     ensures { result ≡ names_class constants.now index }
 {
@@ -33,7 +33,7 @@ pub fn is_class_named(constants: &[Constant], index: u16) -> bool
 }
 
 /// Whether a Utf8 is at the index.
-#[tactic(auto, unfolding(jx_base::specs::Constants::names_text, jx_base::specs::Constants::is_text))]
+#[tactic(auto, unfolding(class_grammar::specs::Constants::names_text, class_grammar::specs::Constants::is_text))]
 pub fn is_text_named(constants: &[Constant], index: u16) -> bool
     ensures { result ≡ names_text constants.now index }
 {
@@ -44,7 +44,7 @@ pub fn is_text_named(constants: &[Constant], index: u16) -> bool
 }
 
 /// Whether a Class and a NameAndType are at the two indices.
-#[tactic(auto, unfolding(jx_base::specs::Constants::names_member, jx_base::specs::Constants::is_name_and_type))]
+#[tactic(auto, unfolding(class_grammar::specs::Constants::names_member, class_grammar::specs::Constants::is_name_and_type))]
 pub fn is_member_named(constants: &[Constant], class: u16, index: u16) -> bool
     ensures { result ≡ names_member constants.now class index }
 {
@@ -56,7 +56,7 @@ pub fn is_member_named(constants: &[Constant], class: u16, index: u16) -> bool
 }
 
 /// An index of a text, and the text.
-#[tactic(auto, unfolding(jx_base::specs::Members::name_part))]
+#[tactic(auto, unfolding(class_grammar::specs::Members::name_part))]
 pub fn name_at<'c, 'b>(
     size: u32,
     cut: ClassFault,
@@ -76,7 +76,7 @@ pub fn name_at<'c, 'b>(
 }
 
 /// An index of a class.
-#[tactic(auto, unfolding(jx_base::specs::Members::class_index))]
+#[tactic(auto, unfolding(class_grammar::specs::Members::class_index))]
 pub fn class_index_at<'b>(
     size: u32,
     constants: &[Constant],
@@ -94,7 +94,7 @@ pub fn class_index_at<'b>(
     Ok((index, rest))
 }
 
-#[tactic(auto, unfolding(jx_base::specs::Members::skipped_attribute))]
+#[tactic(auto, unfolding(class_grammar::specs::Members::skipped_attribute))]
 fn skip_attribute<'b>(
     size: u32,
     cut: ClassFault,
@@ -112,7 +112,7 @@ fn skip_attribute<'b>(
 }
 
 /// Passes over attributes, with their number in front.
-#[tactic(auto, unfolding(jx_base::specs::Members::skipped_attributes))]
+#[tactic(auto, unfolding(class_grammar::specs::Members::skipped_attributes))]
 pub fn skip_attributes<'b>(
     size: u32,
     cut: ClassFault,
@@ -147,7 +147,7 @@ fn skip_so_many<'b>(
 }
 
 /// Whether a name is `Code`.
-#[tactic(auto, unfolding(jx_base::specs::Members::is_code_name))]
+#[tactic(auto, unfolding(class_grammar::specs::Members::is_code_name))]
 pub fn is_code(name: &[u16]) -> bool
     ensures { result ≡ is_code_name name.now }
 {

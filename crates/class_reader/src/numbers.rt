@@ -3,7 +3,7 @@
 ghost use Rattle.std.specs.Prelude.{◌≡◌, ◌≤◌, ◌-◌, ◌+◌, length, IfOk};
 ghost use Rattle.std.specs.Int.{w8, w16, w32, w64};
 ghost use Rattle.class_reader.specs.Reading.{Gives};
-ghost use Rattle.jx_base.specs.Parts.{bytes_of, number};
+ghost use Rattle.class_grammar.specs.Parts.{bytes_of, number};
 
 use crate::error::ReadFault;
 use jx_base::ClassFault;
@@ -16,7 +16,7 @@ pub fn place(size: u32, bytes: &[u8]) -> u32
     size - bytes.len() as u32
 }
 
-#[tactic(auto, unfolding(jx_base::specs::Parts::bytes_of))]
+#[tactic(auto, unfolding(class_grammar::specs::Parts::bytes_of))]
 pub fn bytes_at(cut: ClassFault, n: usize, bytes: &[u8]) -> Result<(&[u8], &[u8]), ReadFault>
     ensures read { Gives (λ x. (x.0.now, x.1.now)) result ((bytes_of cut n).reads bytes.now) }
     ensures shorter { IfOk result (λ x. length x.1.now ≤ length bytes.now) }
@@ -29,7 +29,7 @@ pub fn bytes_at(cut: ClassFault, n: usize, bytes: &[u8]) -> Result<(&[u8], &[u8]
     Ok(bytes.split_at(n))
 }
 
-#[tactic(auto, unfolding(jx_base::specs::Parts::number))]
+#[tactic(auto, unfolding(class_grammar::specs::Parts::number))]
 pub fn u8_at(cut: ClassFault, bytes: &[u8]) -> Result<(u8, &[u8]), ReadFault>
     ensures read { Gives (λ x. (x.0, x.1.now)) result ((number cut w8).reads bytes.now) }
     ensures long { IfOk result (λ x. length bytes.now ≡ 1 + length x.1.now) }
@@ -40,7 +40,7 @@ pub fn u8_at(cut: ClassFault, bytes: &[u8]) -> Result<(u8, &[u8]), ReadFault>
     }
 }
 
-#[tactic(auto, unfolding(jx_base::specs::Parts::number))]
+#[tactic(auto, unfolding(class_grammar::specs::Parts::number))]
 pub fn u16_at(cut: ClassFault, bytes: &[u8]) -> Result<(u16, &[u8]), ReadFault>
     ensures read { Gives (λ x. (x.0, x.1.now)) result ((number cut w16).reads bytes.now) }
     ensures long { IfOk result (λ x. length bytes.now ≡ 2 + length x.1.now) }
@@ -51,7 +51,7 @@ pub fn u16_at(cut: ClassFault, bytes: &[u8]) -> Result<(u16, &[u8]), ReadFault>
     }
 }
 
-#[tactic(auto, unfolding(jx_base::specs::Parts::number))]
+#[tactic(auto, unfolding(class_grammar::specs::Parts::number))]
 pub fn u32_at(cut: ClassFault, bytes: &[u8]) -> Result<(u32, &[u8]), ReadFault>
     ensures read { Gives (λ x. (x.0, x.1.now)) result ((number cut w32).reads bytes.now) }
     ensures long { IfOk result (λ x. length bytes.now ≡ 4 + length x.1.now) }
@@ -62,7 +62,7 @@ pub fn u32_at(cut: ClassFault, bytes: &[u8]) -> Result<(u32, &[u8]), ReadFault>
     }
 }
 
-#[tactic(auto, unfolding(jx_base::specs::Parts::number))]
+#[tactic(auto, unfolding(class_grammar::specs::Parts::number))]
 pub fn u64_at(cut: ClassFault, bytes: &[u8]) -> Result<(u64, &[u8]), ReadFault>
     ensures read { Gives (λ x. (x.0, x.1.now)) result ((number cut w64).reads bytes.now) }
     ensures long { IfOk result (λ x. length bytes.now ≡ 8 + length x.1.now) }

@@ -2,8 +2,8 @@
 ghost use Rattle.std.specs.Prelude.{◌≡◌, ◌≤◌, ◌<◌, ◌^◌, ◌+◌, ◌++◌, ◌∷◌, drop, length, IfOk, OnOk};
 ghost use Rattle.class_reader.specs.Pools.{index_count, entries, constants_length};
 ghost use Rattle.class_reader.specs.Reading.{Gives};
-ghost use Rattle.jx_base.specs.ClassGrammar.{pool_part};
-ghost use Rattle.jx_base.specs.Constants.{constants_part, names_rightly, misnaming_fault};
+ghost use Rattle.class_grammar.specs.ClassGrammar.{pool_part};
+ghost use Rattle.class_grammar.specs.Constants.{constants_part, names_rightly, misnaming_fault};
 
 use crate::constants::{constant_at, is_wide, length_of};
 use crate::error::{ReadFault, bad, class_fault, cut_off_fault};
@@ -65,7 +65,7 @@ fn constants_at(
 }
 
 /// Whether a constant names constants of the tags that it needs.
-#[tactic(auto, unfolding(jx_base::specs::Constants::names_rightly))]
+#[tactic(auto, unfolding(class_grammar::specs::Constants::names_rightly))]
 fn is_rightly_naming(constants: &[Constant], constant: &Constant) -> bool
     ensures { result ≡ names_rightly constants.now constant.now }
 {
@@ -82,7 +82,7 @@ fn is_rightly_naming(constants: &[Constant], constant: &Constant) -> bool
 }
 
 /// The fault of the first of some constants, which stand at a place, that does not name rightly.
-#[tactic(auto, unfolding(jx_base::specs::Constants::misnaming_fault), using(crate::proofs::Pools::names))]
+#[tactic(auto, unfolding(class_grammar::specs::Constants::misnaming_fault), using(crate::proofs::Pools::names))]
 fn misnaming(all: &[Constant], at: u32, constants: &[Constant]) -> Option<ClassFault>
     requires { at + constants_length constants.now < 2 ^ 32 }
     ensures { result ≡ misnaming_fault all.now at constants.now }
@@ -98,7 +98,7 @@ fn misnaming(all: &[Constant], at: u32, constants: &[Constant]) -> Option<ClassF
 }
 
 /// The constants by index, with their number in front.
-#[tactic(auto, unfolding(jx_base::specs::ClassGrammar::pool_part))]
+#[tactic(auto, unfolding(class_grammar::specs::ClassGrammar::pool_part))]
 pub fn pool_at(
     alloc: Global,
     size: u32,

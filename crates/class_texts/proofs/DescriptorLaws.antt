@@ -5,8 +5,8 @@ use Rattle.std.specs.List.{flat_map, AllByRecursion}
 use Rattle.std.proofs.lemmas.Bool.{eqb-true}
 use Rattle.std.proofs.lemmas.List.{append-nil, nil_from_length}
 use Rattle.std.proofs.lemmas.Option.{some_pair_parts}
-use Rattle.jx_base.specs.Descriptors.{Base, Number, Object, FieldType, MethodType, is_number_letter, semicolon, letter_l, bracket, opening, closing, letter_v, base_text, type_text, result_text, method_type_text, IsBase, IsResult, IsFieldDescriptor, IsMethodDescriptor, object_at, base_at, under_dimensions, type_at, whole_type, field_type_of, with_type, types_at, result_of, with_result, method_type_of}
-use Rattle.jx_base.proofs.PartLaws.{Tells}
+use Rattle.class_grammar.specs.Descriptors.{Base, Number, Object, FieldType, MethodType, is_number_letter, semicolon, letter_l, bracket, opening, closing, letter_v, base_text, type_text, result_text, method_type_text, IsBase, IsResult, IsFieldDescriptor, IsMethodDescriptor, object_at, base_at, under_dimensions, type_at, whole_type, field_type_of, with_type, types_at, result_of, with_result, method_type_of}
+use Rattle.class_grammar.proofs.PartLaws.{Tells}
 use Rattle.class_texts.proofs.Shapes.{types_behind, signature_behind}
 use Rattle.class_texts.proofs.Tests.{not_equal, unequal}
 

@@ -6,7 +6,7 @@ use Rattle.std.proofs.lemmas.List.Sums.{sum_by-cons}
 use Rattle.std.proofs.lemmas.Option.{some_pair_parts}
 use Rattle.std.proofs.lemmas.List.{take_more, take_all, drop_all, length-take, length-drop}
 use Rattle.std.proofs.Math.Seq.{drop-cons}
-use Rattle.jx_base.specs.Descriptors.{Base, Object, FieldType, MethodType, semicolon, bracket, opening, closing, letter_v, object_at, base_at, under_dimensions, type_at, whole_type, field_type_of, with_type, types_at, result_of, with_result, method_type_of, is_floating_base, is_floating, is_floating_result, has_floating}
+use Rattle.class_grammar.specs.Descriptors.{Base, Object, FieldType, MethodType, semicolon, bracket, opening, closing, letter_v, object_at, base_at, under_dimensions, type_at, whole_type, field_type_of, with_type, types_at, result_of, with_result, method_type_of, is_floating_base, is_floating, is_floating_result, has_floating}
 use Rattle.class_texts.specs.Slots.{slots_of, argument_slots, capped}
 use Rattle.class_texts.specs.declared.descriptors.Tally.{Tally}
 use Rattle.class_texts.specs.Shapes.{joined, tally_of, tally_of_types, tally_of_method, object_tally, of_base, of_type, of_types, after_closing, signature_of, TellsOf}

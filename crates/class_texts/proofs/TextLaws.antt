@@ -5,7 +5,7 @@ use Rattle.std.specs.List.{AllByRecursion}
 use Rattle.std.proofs.lemmas.List.{append-nil, drop_all}
 use Rattle.std.proofs.lemmas.Option.{same_Some}
 use Rattle.std.proofs.lemmas.Bool.Decides.{nat_tests}
-use Rattle.jx_base.specs.ModifiedUtf8.{IsModifiedUtf8, unit_bytes, modified_utf8, is_continuation, begins_one, begins_two, begins_three, unit_of_two, unit_of_three, is_two, is_three, with_unit, text_of_bytes}
+use Rattle.class_grammar.specs.ModifiedUtf8.{IsModifiedUtf8, unit_bytes, modified_utf8, is_continuation, begins_one, begins_two, begins_three, unit_of_two, unit_of_three, is_two, is_three, with_unit, text_of_bytes}
 use Rattle.class_texts.specs.Texts.{IsTextOf, two, three, with_rest, unit_of_three_at, unit_of_two_at, unit_at}
 use Rattle.class_texts.proofs.Texts.{continued, text_step}
 

@@ -2,7 +2,7 @@
 use Rattle.std.proofs.Common.{◌≡◌, ℕ, List, [], ◌∷◌, ◌++◌, length, Bool, true, false, Option, Some, None, refl, sym, ap, ◌∙◌, append_assoc}
 use Rattle.std.proofs.lemmas.List.{append-nil}
 use Rattle.std.specs.Prelude.{option_map, if◌then◌else◌, ◌==◌}
-use Rattle.jx_base.specs.ModifiedUtf8.{begins_one, with_unit, text_of_bytes}
+use Rattle.class_grammar.specs.ModifiedUtf8.{begins_one, with_unit, text_of_bytes}
 use Rattle.class_texts.specs.Texts.{two, three, with_rest, unit_of_three_at, unit_of_two_at, unit_at}
 use Rattle.class_texts.proofs.Tests.{not_nil}
 

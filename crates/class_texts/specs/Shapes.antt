@@ -1,7 +1,7 @@
 -- What is told of a descriptor: whether a float or a double stands in it, the slots that it takes up, and what stands behind it.
 use Rattle.std.specs.Prelude.{◌≡◌, ℕ, ◌+◌, Bool, false, ◌||◌, List, [], ◌∷◌, Option, Some, None, ◌==◌, if◌then◌else◌, option_map, length, sum_by}
 use Rattle.std.specs.List.{list_any}
-use Rattle.jx_base.specs.Descriptors.{Base, Number, FieldType, closing, MethodType, is_floating, has_floating, types_at, result_of, with_result}
+use Rattle.class_grammar.specs.Descriptors.{Base, Number, FieldType, closing, MethodType, is_floating, has_floating, types_at, result_of, with_result}
 use Rattle.class_texts.specs.Slots.{slots_of, argument_slots, capped}
 use Rattle.class_texts.specs.declared.descriptors.Tally.{Tally}
 

@@ -1,7 +1,7 @@
 -- The 32-bit slots that a method's arguments take up.
 use Rattle.std.specs.Prelude.{ℕ, ◌-◌, ◌^◌, ◌&&◌, ◌==◌, if◌then◌else◌, min, sum_by, codes}
 use Rattle.std.specs.List.{list_any}
-use Rattle.jx_base.specs.Descriptors.{Number, Object, FieldType, MethodType}
+use Rattle.class_grammar.specs.Descriptors.{Number, Object, FieldType, MethodType}
 
 -- two slots for a long or a double, one for each other value
 unfoldable pub slots_of : FieldType → ℕ

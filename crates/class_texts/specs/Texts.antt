@@ -1,6 +1,6 @@
 -- Units of modified UTF-8, one after the other.
 use Rattle.std.specs.Prelude.{ℕ, List, [], ◌∷◌, Option, Some, None, if◌then◌else◌}
-use Rattle.jx_base.specs.ModifiedUtf8.{IsModifiedUtf8, begins_one, is_two, is_three, unit_of_two, unit_of_three}
+use Rattle.class_grammar.specs.ModifiedUtf8.{IsModifiedUtf8, begins_one, is_two, is_three, unit_of_two, unit_of_three}
 
 -- the unit of two bytes, and of three, where they are its shortest form
 unfoldable pub two : ℕ → ℕ → Option ℕ

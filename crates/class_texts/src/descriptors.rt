@@ -3,7 +3,7 @@
 ghost use Rattle.std.specs.Prelude.{◌≡◌, [], ℕ, length, option_map, is_some};
 ghost use Rattle.class_texts.specs.Shapes.{joined, number_type, object_tally, of_base, of_type, of_types, tally_of, tally_of_method, after_closing, signature_of, TellsOf};
 ghost use Rattle.class_texts.specs.Slots.{slots_of, argument_slots, capped};
-ghost use Rattle.jx_base.specs.Descriptors.{is_number_letter, is_floating, is_floating_result, has_floating, object_at, base_at, type_at, types_at, result_of, field_type_of, method_type_of};
+ghost use Rattle.class_grammar.specs.Descriptors.{is_number_letter, is_floating, is_floating_result, has_floating, object_at, base_at, type_at, types_at, result_of, field_type_of, method_type_of};
 
 const SEMICOLON: u16 = 0x3b;
 
@@ -53,7 +53,7 @@ impl Tally {
 }
 
 /// Whether a letter is one of `BCDFIJSZ`.
-#[tactic(auto, unfolding(jx_base::specs::Descriptors::is_number_letter))]
+#[tactic(auto, unfolding(class_grammar::specs::Descriptors::is_number_letter))]
 fn is_number(letter: u16) -> bool
     ensures { result ≡ is_number_letter letter }
 {
@@ -75,7 +75,7 @@ fn number_slots(dimensions: usize, letter: u16) -> u16
     }
 }
 
-#[tactic(auto, unfolding(jx_base::specs::Descriptors::is_floating, jx_base::specs::Descriptors::is_floating_base))]
+#[tactic(auto, unfolding(class_grammar::specs::Descriptors::is_floating, class_grammar::specs::Descriptors::is_floating_base))]
 fn number_tally(dimensions: usize, letter: u16) -> Tally
     ensures { result ≡ tally_of (number_type dimensions letter) }
 {
@@ -98,7 +98,7 @@ fn after_object(text: &[u16]) -> Option<&[u16]>
 }
 
 /// What is told of the base at the front, under so many dimensions, and what stands behind it.
-#[tactic(auto, unfolding(jx_base::specs::Descriptors::base_at))]
+#[tactic(auto, unfolding(class_grammar::specs::Descriptors::base_at))]
 fn base_at(dimensions: usize, letter: u16, rest: &[u16]) -> Option<(Tally, &[u16])>
     ensures { option_map (λ x. (x.0, x.1.now)) result ≡ of_base dimensions (base_at letter rest.now) }
 {
@@ -178,7 +178,7 @@ fn field_floats(text: &[u16]) -> Option<bool>
 }
 
 /// The same of a method's result, of which `V` has no type.
-#[tactic(auto, unfolding(jx_base::specs::Descriptors::result_of, jx_base::specs::Descriptors::is_floating_result))]
+#[tactic(auto, unfolding(class_grammar::specs::Descriptors::result_of, class_grammar::specs::Descriptors::is_floating_result))]
 fn result_floats(text: &[u16]) -> Option<bool>
     ensures { result ≡ option_map is_floating_result (result_of text.now) }
 {
@@ -212,7 +212,7 @@ fn signature_tally(text: &[u16]) -> Option<Tally>
 }
 
 /// Whether the text is a method's descriptor, and then what is told of it.
-#[tactic(auto, unfolding(jx_base::specs::Descriptors::method_type_of))]
+#[tactic(auto, unfolding(class_grammar::specs::Descriptors::method_type_of))]
 fn method_tally(text: &[u16]) -> Option<Tally>
     ensures { result ≡ option_map tally_of_method (method_type_of text.now) }
 {

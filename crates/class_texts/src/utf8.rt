@@ -2,12 +2,12 @@
 //! in two bytes.
 ghost use Rattle.std.specs.Prelude.{◌≡◌, ◌<◌, ◌^◌, ◌+◌, ◌++◌, length, if◌then◌else◌, IfOk, IfSome, OnOk, Some, None, option_map};
 ghost use Rattle.class_texts.specs.Texts.{IsTextOf, two, three, unit_of_three_at, unit_of_two_at, unit_at};
-ghost use Rattle.jx_base.specs.ModifiedUtf8.{IsModifiedUtf8, begins_one, unit_bytes, modified_utf8, text_of_bytes};
+ghost use Rattle.class_grammar.specs.ModifiedUtf8.{IsModifiedUtf8, begins_one, unit_bytes, modified_utf8, text_of_bytes};
 
 use jx_base::{Listed, OutOfMemory, Text};
 use std::alloc::Global;
 
-#[tactic(auto, unfolding(jx_base::specs::ModifiedUtf8::begins_one))]
+#[tactic(auto, unfolding(class_grammar::specs::ModifiedUtf8::begins_one))]
 fn begins_one(byte: u8) -> bool
     ensures { result ≡ begins_one byte }
 {
@@ -15,7 +15,7 @@ fn begins_one(byte: u8) -> bool
 }
 
 /// The unit of two bytes, if they are its shortest form.
-#[tactic(auto, unfolding(jx_base::specs::ModifiedUtf8::is_two, jx_base::specs::ModifiedUtf8::begins_two, jx_base::specs::ModifiedUtf8::is_continuation, jx_base::specs::ModifiedUtf8::unit_of_two, crate::specs::Texts::two))]
+#[tactic(auto, unfolding(class_grammar::specs::ModifiedUtf8::is_two, class_grammar::specs::ModifiedUtf8::begins_two, class_grammar::specs::ModifiedUtf8::is_continuation, class_grammar::specs::ModifiedUtf8::unit_of_two, crate::specs::Texts::two))]
 fn two(b: u8, c: u8) -> Option<u16>
     ensures { result ≡ two b c }
 {
@@ -31,7 +31,7 @@ fn two(b: u8, c: u8) -> Option<u16>
 }
 
 /// The unit of three bytes, if they are its shortest form.
-#[tactic(auto, unfolding(jx_base::specs::ModifiedUtf8::is_three, jx_base::specs::ModifiedUtf8::begins_three, jx_base::specs::ModifiedUtf8::is_continuation, jx_base::specs::ModifiedUtf8::unit_of_three, crate::specs::Texts::three))]
+#[tactic(auto, unfolding(class_grammar::specs::ModifiedUtf8::is_three, class_grammar::specs::ModifiedUtf8::begins_three, class_grammar::specs::ModifiedUtf8::is_continuation, class_grammar::specs::ModifiedUtf8::unit_of_three, crate::specs::Texts::three))]
 fn three(b: u8, c: u8, d: u8) -> Option<u16>
     ensures { result ≡ three b c d }
 {
@@ -113,7 +113,7 @@ pub fn utf8_read(alloc: Global, bytes: &[u8]) -> Result<Option<Text>, OutOfMemor
     text_in(alloc, bytes)
 }
 
-#[tactic(auto, unfolding(jx_base::specs::ModifiedUtf8::unit_bytes))]
+#[tactic(auto, unfolding(class_grammar::specs::ModifiedUtf8::unit_bytes))]
 fn push_unit(bytes: &mut Vec<u8>, unit: u16) -> Result<(), OutOfMemory>
     ensures { OnOk result (bytes.new.items ≡ bytes.old.items ++ unit_bytes unit) }
 {
@@ -141,7 +141,7 @@ pub fn utf8_write(alloc: Global, text: &[u16]) -> Result<Vec<u8>, OutOfMemory>
     Ok(bytes)
 }
 
-#[tactic(auto, unfolding(jx_base::specs::ModifiedUtf8::unit_bytes))]
+#[tactic(auto, unfolding(class_grammar::specs::ModifiedUtf8::unit_bytes))]
 fn unit_length(unit: u16) -> u32
     ensures { result ≡ length (unit_bytes unit) }
 {

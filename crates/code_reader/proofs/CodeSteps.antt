@@ -1,8 +1,8 @@
 -- Reading the instructions one behind the other, as a loop does.
 use Rattle.std.proofs.Common.{◌≡◌, ℕ, zero, suc, ◌-◌, ◌≤◌, ◌<◌, List, [], ◌∷◌, ◌++◌, length, Result, Ok, Err, refl, sym, ap, ◌∙◌, append_assoc, arith}
 use Rattle.std.proofs.lemmas.List.{append-nil}
-use Rattle.jx_base.specs.Parts.{onward}
-use Rattle.jx_base.specs.CodeGrammar.{in_front, instruction_part, instructions_reading}
+use Rattle.class_grammar.specs.Parts.{onward}
+use Rattle.class_grammar.specs.CodeGrammar.{in_front, instruction_part, instructions_reading}
 use Rattle.jx_base.specs.declared.class_file.Instr.{Instr}
 use Rattle.jx_base.specs.declared.fault.CodeFault.{CodeFault}
 use Rattle.code_reader.specs.declared.error.CodeError.{CodeError}

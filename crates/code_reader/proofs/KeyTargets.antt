@@ -4,7 +4,7 @@ use Rattle.std.specs.Prelude.{ℤ, pos, ◌&&◌}
 use Rattle.std.specs.List.{list_all}
 use Rattle.std.proofs.lemmas.List.{length-drop}
 use Rattle.std.proofs.Math.Seq.{take-length}
-use Rattle.jx_base.specs.CodeGrammar.{key_targets}
+use Rattle.class_grammar.specs.CodeGrammar.{key_targets}
 
 module _ (is_start : ℤ → Bool) where
   abbrev lead : List ℤ → Bool

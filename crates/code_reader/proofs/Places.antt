@@ -1,7 +1,7 @@
 -- The instructions of code stand in order, within the code.
 use Rattle.std.proofs.Common.{◌≡◌, ℕ, zero, suc, ◌-◌, ◌+◌, ◌≤◌, ◌<◌, List, [], ◌∷◌, length, subst, arith}
 use Rattle.std.specs.Prelude.{map, slice_index, slice_index_or}
-use Rattle.jx_base.specs.CodeGrammar.{BeginsWith}
+use Rattle.class_grammar.specs.CodeGrammar.{BeginsWith}
 use Rattle.jx_base.specs.declared.class_file.Instr.{Instr}
 use Rattle.code_reader.proofs.Sound.{takes_a_byte, starts_at_pc}
 

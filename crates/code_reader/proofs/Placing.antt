@@ -2,7 +2,7 @@
 use Rattle.std.proofs.Common.{◌≡◌, ℕ, List, Bool, Option, Some, None, Result, Ok, Err, ap, ◌∙◌}
 use Rattle.std.specs.Prelude.{ℤ, find, not, option_map}
 use Rattle.std.proofs.Math.Path.{fun_ext}
-use Rattle.jx_base.specs.CodeGrammar.{code_fault, first_astray, first_bad_range, is_astray, is_range_of}
+use Rattle.class_grammar.specs.CodeGrammar.{code_fault, first_astray, first_bad_range, is_astray, is_range_of}
 use Rattle.jx_base.specs.declared.class_file.Instr.{Instr}
 use Rattle.jx_base.specs.declared.class_file.Range.{Range}
 use Rattle.jx_base.specs.declared.fault.CodeFault.{CodeFault}

@@ -1,8 +1,8 @@
 -- Reading tells just whether bytes are code, and their first fault.
 use Rattle.std.proofs.Common.{◌≡◌, ℕ, zero, suc, ◌-◌, ◌≤◌, ◌⊎◌, inl, inr, List, [], ◌∷◌, length, Option, Some, None, Result, Ok, Err, refl, sym, ap, ◌∙◌, subst, arith}
 use Rattle.std.specs.Prelude.{◌≢◌}
-use Rattle.jx_base.specs.Parts.{onward}
-use Rattle.jx_base.specs.CodeGrammar.{code_fault, in_front, instruction_part, instructions_reading, BeginsWith, IsCode, IsFirstFault, of_instruction, of_target, of_range, first_astray, first_bad_range}
+use Rattle.class_grammar.specs.Parts.{onward}
+use Rattle.class_grammar.specs.CodeGrammar.{code_fault, in_front, instruction_part, instructions_reading, BeginsWith, IsCode, IsFirstFault, of_instruction, of_target, of_range, first_astray, first_bad_range}
 use Rattle.jx_base.specs.declared.class_file.Instr.{Instr}
 use Rattle.jx_base.specs.declared.class_file.Range.{Range}
 use Rattle.jx_base.specs.declared.fault.CodeFault.{CodeFault}

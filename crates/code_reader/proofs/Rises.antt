@@ -3,7 +3,7 @@ use Rattle.std.proofs.Common.{◌≡◌, ℕ, suc, ◌+◌, ◌≤◌, ◌<◌, 
 use Rattle.std.specs.Prelude.{ℤ, pos, int_lt, ◌&&◌}
 use Rattle.std.proofs.lemmas.List.{length-drop}
 use Rattle.std.proofs.Math.Seq.{drop-cons}
-use Rattle.jx_base.specs.CodeGrammar.{keys_rise}
+use Rattle.class_grammar.specs.CodeGrammar.{keys_rise}
 
 -- the list from i on
 three_at : (xs : List ℤ) (i : ℕ) → i + 2 < length xs → drop i xs ≡ get_or xs i (pos 0) ∷ get_or xs (i + 1) (pos 0) ∷ drop (i + 2) xs

@@ -7,10 +7,10 @@ use Rattle.jx_base.specs.declared.fault.CodeKind.{CodeKind}
 use Rattle.jx_base.specs.declared.fault.CodeKind.TheVariants as kind
 use Rattle.jx_base.specs.declared.row.Form.{Form}
 use Rattle.jx_base.specs.declared.row.Form.TheVariants as form
-use Rattle.jx_base.specs.Opcodes.{form_at, wide_form_at}
-use Rattle.jx_base.specs.Parts.{Part, ◌>>=◌, repeated, done, refused, demand, bytes_of, number}
-use Rattle.jx_base.specs.CodeGrammar.{unsigned_operand, signed_operand, target_operand, interface_operands, array_type_operand, dimensions_operands, increment_operands, table_operands, key_operands, lookup_operands, operands_part, wide_part, behind_opcode, instruction_part, padding_length}
-use Rattle.jx_base.proofs.PartLaws.{IsLawful, lawful-bind, lawful-repeated, lawful-done, lawful-refused, lawful-demand, lawful-bytes_of, lawful-number}
+use Rattle.class_grammar.specs.Opcodes.{form_at, wide_form_at}
+use Rattle.class_grammar.specs.Parts.{Part, ◌>>=◌, repeated, done, refused, demand, bytes_of, number}
+use Rattle.class_grammar.specs.CodeGrammar.{unsigned_operand, signed_operand, target_operand, interface_operands, array_type_operand, dimensions_operands, increment_operands, table_operands, key_operands, lookup_operands, operands_part, wide_part, behind_opcode, instruction_part, padding_length}
+use Rattle.class_grammar.proofs.PartLaws.{IsLawful, lawful-bind, lawful-repeated, lawful-done, lawful-refused, lawful-demand, lawful-bytes_of, lawful-number}
 
 pub record IsSound {A F : Type 0} (p : Part A F) : Type 0 where
   pub lawful : IsLawful p

@@ -8,7 +8,7 @@ use Rattle.std.proofs.lemmas.List.Folds.{list_any-append}
 use Rattle.std.proofs.lemmas.Bool.{eqb-true, eq-eqb}
 use Rattle.std.proofs.lemmas.Bool.Decides.{nat_tests, same_from_decides, Decides-int_eq}
 use Rattle.std.proofs.Math.Seq.{take-length}
-use Rattle.jx_base.specs.CodeGrammar.{starts_at}
+use Rattle.class_grammar.specs.CodeGrammar.{starts_at}
 use Rattle.jx_base.specs.declared.class_file.Instr.{Instr}
 use Rattle.code_reader.specs.CodeReading.{Marks, is_marked}
 

@@ -1,7 +1,7 @@
 -- The laws of code: it is read in one way, and its instructions stand in order.
 use Rattle.std.specs.Prelude.{◌≡◌, ℕ, ◌<◌, List, length, map, All, Ok}
 use Rattle.std.specs.List.Sorted.{IsStrictlyIncreasing}
-use Rattle.jx_base.specs.CodeGrammar.{IsCode, IsFirstFault, instructions_reading}
+use Rattle.class_grammar.specs.CodeGrammar.{IsCode, IsFirstFault, instructions_reading}
 use Rattle.jx_base.specs.declared.class_file.Instr.{Instr}
 use Rattle.jx_base.specs.declared.class_file.Range.{Range}
 use Rattle.jx_base.specs.declared.fault.CodeFault.{CodeFault}

@@ -1,7 +1,7 @@
 -- Reading a method's code from left to right, and then its targets and its exception table.
 use Rattle.std.specs.Prelude.{◌≡◌, ℕ, ℤ, pos, negsuc, Bool, false, ◌&&◌, ◌||◌, not, nat_lt, ◌==◌, List, length, Option, Some, None, Result, Ok, Err, slice_index_or}
 use Rattle.std.specs.List.{list_all}
-use Rattle.jx_base.specs.CodeGrammar.{code_fault, IsCodeFault, first_astray, first_bad_range, instructions_reading, starts_at, targets_of}
+use Rattle.class_grammar.specs.CodeGrammar.{code_fault, IsCodeFault, first_astray, first_bad_range, instructions_reading, starts_at, targets_of}
 use Rattle.jx_base.specs.declared.class_file.Instr.{Instr}
 use Rattle.jx_base.specs.declared.class_file.Range.{Range}
 use Rattle.jx_base.specs.declared.fault.CodeFault.{CodeFault}

@@ -2,7 +2,7 @@
 use Rattle.std.specs.Prelude.{◌≤◌, ℤ, length, IfOk, Vec, ◌≡◌, List, ◌++◌, ℕ, Result, Ok, Err}
 use Rattle.std.specs.Borrow.{Bor}
 use Rattle.std.specs.declared.alloc.Global.{Global}
-use Rattle.jx_base.specs.Parts.{Part, onward}
+use Rattle.class_grammar.specs.Parts.{Part, onward}
 use Rattle.jx_base.specs.declared.fault.CodeFault.{CodeFault}
 use Rattle.code_reader.specs.declared.error.CodeError.{CodeError}
 use Rattle.code_reader.specs.declared.error.CodeError.TheVariants as error

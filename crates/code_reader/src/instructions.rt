@@ -1,6 +1,6 @@
 //! Instructions, one behind the other.
 ghost use Rattle.std.specs.Prelude.{◌<◌, ◌^◌, length, IfOk};
-ghost use Rattle.jx_base.specs.CodeGrammar.{wide_part, instruction_part, instructions_reading};
+ghost use Rattle.class_grammar.specs.CodeGrammar.{wide_part, instruction_part, instructions_reading};
 ghost use Rattle.code_reader.specs.Readings.{Gives};
 
 use crate::error::CodeError;
@@ -26,7 +26,7 @@ pub fn instructions(alloc: Global, code: &[u8]) -> Result<Vec<Instr>, CodeError>
     Ok(instrs)
 }
 
-#[tactic(auto, unfolding(jx_base::specs::CodeGrammar::instruction_part, jx_base::specs::CodeGrammar::behind_opcode))]
+#[tactic(auto, unfolding(class_grammar::specs::CodeGrammar::instruction_part, class_grammar::specs::CodeGrammar::behind_opcode))]
 fn instruction(alloc: Global, pc: u32, bytes: &[u8]) -> Front<'_, Instr>
     requires { pc < 2 ^ 31 }
     ensures read { Gives (λ x. (x.0, x.1.now)) result ((instruction_part pc).reads bytes.now) }
@@ -49,7 +49,7 @@ fn instruction(alloc: Global, pc: u32, bytes: &[u8]) -> Front<'_, Instr>
 }
 
 // What stands behind wide.
-#[tactic(auto, unfolding(jx_base::specs::CodeGrammar::wide_part))]
+#[tactic(auto, unfolding(class_grammar::specs::CodeGrammar::wide_part))]
 fn wide(alloc: Global, pc: u32, bytes: &[u8]) -> Front<'_, Instr>
     requires { pc < 2 ^ 31 }
     ensures read { Gives (λ x. (x.0, x.1.now)) result ((wide_part pc).reads bytes.now) }

@@ -1,8 +1,8 @@
 //! Numbers at the front of bytes, the highest byte first.
 ghost use Rattle.std.specs.Prelude.{◌≡◌, ◌<◌, ◌≤◌, ◌∷◌, [], ◌^◌, length, IfOk, pos, ◌+ℤ◌, slice_index_or};
 ghost use Rattle.std.specs.Int.{w8, w16, w32, int_wrap};
-ghost use Rattle.jx_base.specs.Parts.{number, bytes_of};
-ghost use Rattle.jx_base.specs.CodeGrammar.{past_end, code_fault, target_operand};
+ghost use Rattle.class_grammar.specs.Parts.{number, bytes_of};
+ghost use Rattle.class_grammar.specs.CodeGrammar.{past_end, code_fault, target_operand};
 ghost use Rattle.code_reader.specs.Readings.{Gives, IsNoLonger};
 ghost use Rattle.code_reader.specs.declared.error.CodeError.TheVariants.{Bad};
 
@@ -19,7 +19,7 @@ pub fn fault(pc: u32, kind: CodeKind) -> CodeError
     CodeError::Bad(CodeFault { pc, kind })
 }
 
-#[tactic(auto, unfolding(jx_base::specs::Parts::number))]
+#[tactic(auto, unfolding(class_grammar::specs::Parts::number))]
 pub fn u8_at(pc: u32, bytes: &[u8]) -> Front<'_, u8>
     ensures read { Gives (λ x. (x.0, x.1.now)) result ((number (past_end pc) w8).reads bytes.now) }
     ensures shorter { IfOk result (λ x. length x.1.now < length bytes.now) }
@@ -30,7 +30,7 @@ pub fn u8_at(pc: u32, bytes: &[u8]) -> Front<'_, u8>
     }
 }
 
-#[tactic(auto, unfolding(jx_base::specs::Parts::number))]
+#[tactic(auto, unfolding(class_grammar::specs::Parts::number))]
 pub fn u16_at(pc: u32, bytes: &[u8]) -> Front<'_, u16>
     ensures read { Gives (λ x. (x.0, x.1.now)) result ((number (past_end pc) w16).reads bytes.now) }
     ensures shorter { IsNoLonger bytes.now result }
@@ -42,7 +42,7 @@ pub fn u16_at(pc: u32, bytes: &[u8]) -> Front<'_, u16>
     Ok((u16::from_be_bytes([front[0], front[1]]), rest))
 }
 
-#[tactic(auto, unfolding(jx_base::specs::Parts::number))]
+#[tactic(auto, unfolding(class_grammar::specs::Parts::number))]
 pub fn u32_at(pc: u32, bytes: &[u8]) -> Front<'_, u32>
     ensures read { Gives (λ x. (x.0, x.1.now)) result ((number (past_end pc) w32).reads bytes.now) }
     ensures shorter { IsNoLonger bytes.now result }
@@ -58,7 +58,7 @@ pub fn u32_at(pc: u32, bytes: &[u8]) -> Front<'_, u32>
 }
 
 /// The bytes behind the first `n`.
-#[tactic(auto, unfolding(jx_base::specs::Parts::bytes_of))]
+#[tactic(auto, unfolding(class_grammar::specs::Parts::bytes_of))]
 pub fn skip(n: usize, pc: u32, bytes: &[u8]) -> Front<'_, &[u8]>
     ensures read { Gives (λ x. (x.0.now, x.1.now)) result ((bytes_of (past_end pc) n).reads bytes.now) }
     ensures shorter { IsNoLonger bytes.now result }
@@ -79,7 +79,7 @@ fn target_from(pc: u32, offset: i32) -> i32
 }
 
 /// A target of two bytes.
-#[tactic(auto, unfolding(jx_base::specs::CodeGrammar::target_operand))]
+#[tactic(auto, unfolding(class_grammar::specs::CodeGrammar::target_operand))]
 pub fn target_at(pc: u32, bytes: &[u8]) -> Front<'_, i32>
     requires { pc < 2 ^ 31 }
     ensures read { Gives (λ x. (x.0 ∷ [], x.1.now)) result ((target_operand w16 pc).reads bytes.now) }
@@ -90,7 +90,7 @@ pub fn target_at(pc: u32, bytes: &[u8]) -> Front<'_, i32>
 }
 
 /// A target of four bytes.
-#[tactic(auto, unfolding(jx_base::specs::CodeGrammar::target_operand))]
+#[tactic(auto, unfolding(class_grammar::specs::CodeGrammar::target_operand))]
 pub fn far_target_at(pc: u32, bytes: &[u8]) -> Front<'_, i32>
     requires { pc < 2 ^ 31 }
     ensures read { Gives (λ x. (x.0 ∷ [], x.1.now)) result ((target_operand w32 pc).reads bytes.now) }

@@ -1,8 +1,8 @@
 //! The operands of an instruction.
 ghost use Rattle.std.specs.Prelude.{◌<◌, ◌≤◌, ◌∷◌, [], ◌^◌, length, IfOk};
 ghost use Rattle.std.specs.Int.{w8, w16};
-ghost use Rattle.jx_base.specs.Parts.{done};
-ghost use Rattle.jx_base.specs.CodeGrammar.{interface_operands, array_type_operand, dimensions_operands, increment_operands, operands_part};
+ghost use Rattle.class_grammar.specs.Parts.{done};
+ghost use Rattle.class_grammar.specs.CodeGrammar.{interface_operands, array_type_operand, dimensions_operands, increment_operands, operands_part};
 ghost use Rattle.code_reader.specs.Readings.{IsNoLonger, ReadsNumbers};
 
 use crate::numbers::{Front, far_target_at, fault, skip, target_at, u8_at, u16_at};
@@ -11,7 +11,7 @@ use jx_base::{CodeKind, Form};
 use std::alloc::Global;
 
 /// The operands of a form; `missing` is told of an opcode that the table doesn't have.
-#[tactic(auto, unfolding(jx_base::specs::CodeGrammar::operands_part, jx_base::specs::CodeGrammar::signed_operand, jx_base::specs::CodeGrammar::unsigned_operand))]
+#[tactic(auto, unfolding(class_grammar::specs::CodeGrammar::operands_part, class_grammar::specs::CodeGrammar::signed_operand, class_grammar::specs::CodeGrammar::unsigned_operand))]
 pub fn operands_of(
     alloc: Global,
     missing: CodeKind,
@@ -68,7 +68,7 @@ fn one(alloc: Global, operand: i32, rest: &[u8]) -> Front<'_, Vec<i32>>
     Ok((Vec::from_slice(alloc, &[operand])?, rest))
 }
 
-#[tactic(auto, unfolding(jx_base::specs::CodeGrammar::interface_operands))]
+#[tactic(auto, unfolding(class_grammar::specs::CodeGrammar::interface_operands))]
 fn interface(alloc: Global, pc: u32, bytes: &[u8]) -> Front<'_, Vec<i32>>
     ensures read { ReadsNumbers (interface_operands pc) bytes.now result }
     ensures shorter { IsNoLonger bytes.now result }
@@ -78,7 +78,7 @@ fn interface(alloc: Global, pc: u32, bytes: &[u8]) -> Front<'_, Vec<i32>>
     one(alloc, i32::from(index), rest)
 }
 
-#[tactic(auto, unfolding(jx_base::specs::CodeGrammar::array_type_operand))]
+#[tactic(auto, unfolding(class_grammar::specs::CodeGrammar::array_type_operand))]
 fn array_type(alloc: Global, pc: u32, bytes: &[u8]) -> Front<'_, Vec<i32>>
     ensures read { ReadsNumbers (array_type_operand pc) bytes.now result }
     ensures shorter { IsNoLonger bytes.now result }
@@ -93,7 +93,7 @@ fn array_type(alloc: Global, pc: u32, bytes: &[u8]) -> Front<'_, Vec<i32>>
     one(alloc, i32::from(number), rest)
 }
 
-#[tactic(auto, unfolding(jx_base::specs::CodeGrammar::dimensions_operands))]
+#[tactic(auto, unfolding(class_grammar::specs::CodeGrammar::dimensions_operands))]
 fn dimensions(alloc: Global, pc: u32, bytes: &[u8]) -> Front<'_, Vec<i32>>
     ensures read { ReadsNumbers (dimensions_operands pc) bytes.now result }
     ensures shorter { IsNoLonger bytes.now result }
@@ -106,7 +106,7 @@ fn dimensions(alloc: Global, pc: u32, bytes: &[u8]) -> Front<'_, Vec<i32>>
     two(alloc, i32::from(index), i32::from(count), rest)
 }
 
-#[tactic(auto, unfolding(jx_base::specs::CodeGrammar::increment_operands))]
+#[tactic(auto, unfolding(class_grammar::specs::CodeGrammar::increment_operands))]
 fn increment(alloc: Global, pc: u32, bytes: &[u8]) -> Front<'_, Vec<i32>>
     ensures read { ReadsNumbers (increment_operands w8 pc) bytes.now result }
     ensures shorter { IsNoLonger bytes.now result }
@@ -116,7 +116,7 @@ fn increment(alloc: Global, pc: u32, bytes: &[u8]) -> Front<'_, Vec<i32>>
     two(alloc, i32::from(local), i32::from(by.cast_signed()), rest)
 }
 
-#[tactic(auto, unfolding(jx_base::specs::CodeGrammar::increment_operands))]
+#[tactic(auto, unfolding(class_grammar::specs::CodeGrammar::increment_operands))]
 fn wide_increment(alloc: Global, pc: u32, bytes: &[u8]) -> Front<'_, Vec<i32>>
     ensures read { ReadsNumbers (increment_operands w16 pc) bytes.now result }
     ensures shorter { IsNoLonger bytes.now result }

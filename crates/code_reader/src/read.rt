@@ -1,6 +1,6 @@
 //! Reads the code of a method.
 ghost use Rattle.std.specs.Prelude.{◌<◌, ◌^◌, ℕ, List, length, IfOk, IfErr, Ok, Err};
-ghost use Rattle.jx_base.specs.CodeGrammar.{IsCode, IsCodeFault, code_fault};
+ghost use Rattle.class_grammar.specs.CodeGrammar.{IsCode, IsCodeFault, code_fault};
 ghost use Rattle.jx_base.specs.declared.class_file.Instr.{Instr};
 ghost use Rattle.jx_base.specs.declared.fault.CodeKind.{CodeKind};
 ghost use Rattle.code_reader.specs.CodeReading.{Marks, TellsFault, IsToldBy, code_reading};

@@ -1,8 +1,8 @@
 //! The operands of tableswitch and lookupswitch.
 ghost use Rattle.std.specs.Prelude.{◌≡◌, ◌<◌, ◌≤◌, ◌≤ℤ◌, ◌-ℤ◌, ◌+◌, ◌∷◌, [], ◌^◌, length, IfOk, unsigned_abs, int_lt};
 ghost use Rattle.std.specs.Int.{w32};
-ghost use Rattle.jx_base.specs.Parts.{repeated};
-ghost use Rattle.jx_base.specs.CodeGrammar.{target_operand, key_operands, keys_rise, table_operands, lookup_operands, padding_length};
+ghost use Rattle.class_grammar.specs.Parts.{repeated};
+ghost use Rattle.class_grammar.specs.CodeGrammar.{target_operand, key_operands, keys_rise, table_operands, lookup_operands, padding_length};
 ghost use Rattle.code_reader.specs.Readings.{AddsNumbers, Gives, IsNoLonger, ReadsNumbers};
 
 use crate::numbers::{Front, far_target_at, fault, number_at, skip, u32_at};
@@ -10,7 +10,7 @@ use jx_base::CodeKind;
 use std::alloc::Global;
 
 /// The operands of tableswitch.
-#[tactic(auto, unfolding(jx_base::specs::CodeGrammar::table_operands))]
+#[tactic(auto, unfolding(class_grammar::specs::CodeGrammar::table_operands))]
 pub fn table(alloc: Global, pc: u32, bytes: &[u8]) -> Front<'_, Vec<i32>>
     requires { pc < 2 ^ 31 }
     ensures read { ReadsNumbers (table_operands pc) bytes.now result }
@@ -30,7 +30,7 @@ pub fn table(alloc: Global, pc: u32, bytes: &[u8]) -> Front<'_, Vec<i32>>
 }
 
 // The bytes up to the next multiple of 4 in the code.
-#[tactic(auto, unfolding(jx_base::specs::CodeGrammar::padding_length))]
+#[tactic(auto, unfolding(class_grammar::specs::CodeGrammar::padding_length))]
 fn padding(pc: u32) -> usize
     ensures { result ≡ padding_length pc }
 {
@@ -61,7 +61,7 @@ fn with_targets(mut operands: Vec<i32>, count: u64, pc: u32, bytes: &[u8]) -> Fr
 }
 
 /// The operands of lookupswitch.
-#[tactic(auto, unfolding(jx_base::specs::CodeGrammar::lookup_operands))]
+#[tactic(auto, unfolding(class_grammar::specs::CodeGrammar::lookup_operands))]
 pub fn lookup(alloc: Global, pc: u32, bytes: &[u8]) -> Front<'_, Vec<i32>>
     requires { pc < 2 ^ 31 }
     ensures read { ReadsNumbers (lookup_operands pc) bytes.now result }
@@ -98,7 +98,7 @@ fn with_keys(mut operands: Vec<i32>, count: u32, pc: u32, bytes: &[u8]) -> Front
 }
 
 // A key, and its target.
-#[tactic(auto, unfolding(jx_base::specs::CodeGrammar::key_operands, jx_base::specs::CodeGrammar::signed_operand))]
+#[tactic(auto, unfolding(class_grammar::specs::CodeGrammar::key_operands, class_grammar::specs::CodeGrammar::signed_operand))]
 fn key_at(pc: u32, bytes: &[u8]) -> Front<'_, (i32, i32)>
     requires { pc < 2 ^ 31 }
     ensures read { Gives (λ x. (x.0.0 ∷ x.0.1 ∷ [], x.1.now)) result ((key_operands pc).reads bytes.now) }

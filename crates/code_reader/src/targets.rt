@@ -1,7 +1,7 @@
 //! Where instructions start, and what has to lead there.
 ghost use Rattle.std.specs.Prelude.{◌≡◌, ◌<◌, pos, All, IfOk, find, not, option_map};
 ghost use Rattle.std.specs.List.{list_all};
-ghost use Rattle.jx_base.specs.CodeGrammar.{key_targets};
+ghost use Rattle.class_grammar.specs.CodeGrammar.{key_targets};
 ghost use Rattle.code_reader.specs.CodeReading.{Marks, is_marked, leads_astray, is_good_range};
 
 use crate::numbers::number_at;
@@ -61,7 +61,7 @@ fn keys_lead_to_starts(starts: &[bool], pairs: &[i32]) -> bool
     true
 }
 
-#[tactic(auto, unfolding(crate::specs::CodeReading::leads_astray, jx_base::specs::CodeGrammar::targets_of, jx_base::specs::CodeGrammar::targets_in, jx_base::specs::CodeGrammar::table_targets, jx_base::specs::CodeGrammar::lookup_targets))]
+#[tactic(auto, unfolding(crate::specs::CodeReading::leads_astray, class_grammar::specs::CodeGrammar::targets_of, class_grammar::specs::CodeGrammar::targets_in, class_grammar::specs::CodeGrammar::table_targets, class_grammar::specs::CodeGrammar::lookup_targets))]
 fn leads_to_starts(starts: &[bool], instr: &Instr) -> bool
     ensures { not result ≡ leads_astray (is_marked starts.now) instr.now }
 {

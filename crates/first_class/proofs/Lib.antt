@@ -1,0 +1,5 @@
+pub mod TestSystems
+pub mod Hello
+pub mod HelloLinked
+pub mod FirstClass
+pub mod FirstComplete

@@ -1,12 +1,12 @@
 //! How operands lie behind an opcode, and what it does.
 ghost use Rattle.std.specs.Prelude.{◌≡◌};
-ghost use Rattle.jx_base.specs.Opcodes.{form_at, row_at, wide_form_at};
+ghost use Rattle.class_grammar.specs.Opcodes.{form_at, row_at, wide_form_at};
 
 use crate::opcodes::opcode_of;
 use jx_base::{Form, Local, Row};
 
 /// What the opcode does.
-#[tactic(auto, unfolding(jx_base::specs::Opcodes::row_at))]
+#[tactic(auto, unfolding(class_grammar::specs::Opcodes::row_at))]
 pub fn row_of(number: u8) -> Row
     ensures { result ≡ row_at number }
 {
@@ -14,7 +14,7 @@ pub fn row_of(number: u8) -> Row
 }
 
 /// How the opcode's operands lie behind it.
-#[tactic(auto, unfolding(jx_base::specs::Opcodes::form_at))]
+#[tactic(auto, unfolding(class_grammar::specs::Opcodes::form_at))]
 pub fn form_of(number: u8) -> Form
     ensures { result ≡ form_at number }
 {
@@ -22,7 +22,7 @@ pub fn form_of(number: u8) -> Form
 }
 
 /// How the operands lie behind wide and that opcode.
-#[tactic(auto, unfolding(jx_base::specs::Opcodes::wide_form_at, jx_base::specs::Opcodes::wide_form_of, jx_base::specs::Opcodes::is_left_out_wide))]
+#[tactic(auto, unfolding(class_grammar::specs::Opcodes::wide_form_at, class_grammar::specs::Opcodes::wide_form_of, class_grammar::specs::Opcodes::is_left_out_wide))]
 pub fn wide_form_of(number: u8) -> Form
     ensures { result ≡ wide_form_at number }
 {

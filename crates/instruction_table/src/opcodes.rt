@@ -1,6 +1,6 @@
 //! The one table of opcodes.
 ghost use Rattle.std.specs.Prelude.{◌≡◌};
-ghost use Rattle.jx_base.specs.Opcodes.{opcode_at};
+ghost use Rattle.class_grammar.specs.Opcodes.{opcode_at};
 
 use jx_base::{
     Comparison, Conversion, Division, Element, Form, Invocation, Kind, Local, Operator, Row, Shift,

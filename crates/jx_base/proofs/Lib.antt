@@ -1,4 +1,2 @@
-pub mod ClassRows
-pub mod PartLaws
-pub mod Repeats
-pub mod CodeLengths
+pub mod BasicLaws
+pub mod NthEntries

@@ -1,3 +1,5 @@
+pub mod Basics
+pub mod Histories
 pub mod Faults
 pub mod Files
 pub mod Puts
@@ -6,12 +8,3 @@ pub mod InMemory
 pub mod ClassNames
 pub mod Stacks
 pub mod Births
-pub mod Parts
-pub mod Flags
-pub mod Opcodes
-pub mod ModifiedUtf8
-pub mod Descriptors
-pub mod Constants
-pub mod Members
-pub mod ClassGrammar
-pub mod CodeGrammar

@@ -7,13 +7,13 @@ use Rattle.jx_base.specs.declared.act.Act.TheVariants as act
 use Rattle.jx_base.specs.declared.ids.ServiceId.{ServiceId}
 use Rattle.jx_base.specs.declared.program.System.{System}
 use Rattle.jx_base.specs.declared.states.ThreadState.{ThreadState}
-use Rattle.jx_model.specs.Words.{and_then, mapped, passes}
-use Rattle.jx_model.specs.Histories.{Past}
+use Rattle.jx_base.specs.Basics.{and_then, mapped, passes}
+use Rattle.jx_base.specs.Histories.{Past}
 use Rattle.jx_model.specs.Domains.{is_live}
 use Rattle.jx_model.specs.Threads.{service_threads, threads_of, thread_state, thread_where, running_thread, is_running_state}
 use Rattle.jx_model.specs.Calls.{service_of_call, is_resumable}
 use Rattle.jx_model.specs.Permits.{acting_thread, is_over, zero_may_now, domains_wait, domain_thread, may_perform, choice_thread, taking_thread, is_head, idle_thread, is_idle_for, resuming_thread, is_waiting_for, going_thread, is_yielded}
-use Rattle.jx_model.proofs.Kit.{found, none_found, passed}
+use Rattle.jx_base.proofs.BasicLaws.{found, none_found, passed}
 
 chosen : (b : Bool) (t : ℕ) (x : Option ℕ) → (if b then x else None) ≡ Some t → (b ≡ true) × (x ≡ Some t)
 chosen true t x h = (refl, h)

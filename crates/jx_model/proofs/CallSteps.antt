@@ -1,9 +1,9 @@
 -- What an entry more changes of what came of a call.
 use Rattle.std.proofs.Common.{◌≡◌, refl, ◌∙◌, ap, ℕ, ◌<◌, ◌≤◌, Bool, true, false, ◌||◌, [], ◌∷◌, Option, Some, None, is_some, arith}
 use Rattle.jx_base.specs.declared.act.Entry.{Entry}
-use Rattle.jx_model.specs.Histories.{Past, nth_entry, count_where}
+use Rattle.jx_base.specs.Histories.{Past, nth_entry, count_where}
 use Rattle.jx_model.specs.Calls.{Answer, is_call, calls_made, call_entry, first_since, marked, answer_of, answered_by, is_taken, is_resumed, is_take_of, is_resume_of, service_of_call, asked_of}
-use Rattle.jx_model.proofs.Numbers.{nth_old, nth_none, nth_there}
+use Rattle.jx_base.proofs.NthEntries.{nth_old, nth_none, nth_there}
 
 -- ---- what comes after a call
 

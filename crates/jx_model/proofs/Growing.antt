@@ -11,14 +11,14 @@ use Rattle.jx_base.specs.declared.program.System.{System}
 use Rattle.jx_base.specs.declared.value.Parcel.{Parcel}
 use Rattle.jx_base.specs.declared.value.Word.{Word}
 use Rattle.jx_base.specs.declared.value.Word.TheVariants as word
-use Rattle.jx_model.specs.Words.{and_then}
-use Rattle.jx_model.specs.ParcelParts.{parcel_cells}
-use Rattle.jx_model.specs.Histories.{Past, past_of, nth_entry}
+use Rattle.jx_base.specs.Basics.{and_then}
+use Rattle.program_model.specs.ParcelParts.{parcel_cells}
+use Rattle.jx_base.specs.Histories.{Past, past_of, nth_entry}
 use Rattle.jx_model.specs.Moments.{IsMoment, BeginsWith, HasGrown}
 use Rattle.jx_model.specs.Portals.{is_export, export_of, interface_of, exported_interface}
 use Rattle.jx_model.specs.WellMade.{IsWellMade, IsWordIn, IsParcelIn}
 use Rattle.jx_model.specs.Legal.{IsNext, IsAdmittedPast}
-use Rattle.jx_model.proofs.Numbers.{nth_stays}
+use Rattle.jx_base.proofs.NthEntries.{nth_stays}
 
 -- ---- moments
 

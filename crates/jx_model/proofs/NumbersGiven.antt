@@ -13,8 +13,8 @@ use Rattle.jx_base.specs.declared.ids.ObjectId.{ObjectId}
 use Rattle.jx_base.specs.declared.ids.ServiceId.{ServiceId}
 use Rattle.jx_base.specs.declared.value.Parcel.{Parcel}
 use Rattle.jx_base.specs.declared.program.System.{System}
-use Rattle.jx_model.specs.Words.{up_to, numbered}
-use Rattle.jx_model.specs.Histories.{Past, count_where}
+use Rattle.jx_base.specs.Basics.{up_to, numbered}
+use Rattle.jx_base.specs.Histories.{Past, count_where}
 use Rattle.jx_model.specs.Domains.{is_birth, makes_domain, domains_made, template_named}
 use Rattle.jx_model.specs.Portals.{is_export, exported_interface, services_made}
 use Rattle.jx_model.specs.Calls.{is_call, asked_by, queued_as, calls_made}
@@ -23,8 +23,8 @@ use Rattle.jx_model.specs.Granules.{first_fit, heap_granules}
 use Rattle.jx_model.specs.Replies.{reply_to, ◌refuses◌else◌, given_or, new_domain, spawned, new_service, called, with_object, derived, divided, one_object, allocated, new_object}
 use Rattle.jx_model.specs.Legal.{IsNext, IsAdmittedPast}
 use Rattle.jx_model.specs.Growth.{GivesNumbersOnce, numbers_given, new_domain_number, new_service_number, new_call_number, new_object_numbers}
-use Rattle.jx_model.proofs.Kit.{up_to_append}
-use Rattle.jx_model.proofs.Numbers.{count_new, count_same}
+use Rattle.jx_base.proofs.BasicLaws.{up_to_append}
+use Rattle.jx_base.proofs.NthEntries.{count_new, count_same}
 
 -- an entry that is counted gives the next number, and one that isn't gives none
 abbrev pub Counts : Bool → List ℕ → ℕ → Type 0

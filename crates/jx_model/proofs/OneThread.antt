@@ -12,13 +12,14 @@ use Rattle.jx_base.specs.declared.ids.ServiceId.{ServiceId}
 use Rattle.jx_base.specs.declared.program.System.{System}
 use Rattle.jx_base.specs.declared.states.ThreadState.{ThreadState}
 use Rattle.jx_base.specs.declared.states.ThreadState.TheVariants as thread
-use Rattle.jx_model.specs.Words.{mapped, passes}
-use Rattle.jx_model.specs.Histories.{Past, is_own, is_full}
+use Rattle.jx_base.specs.Basics.{mapped, passes}
+use Rattle.jx_base.specs.Histories.{Past, is_own}
+use Rattle.jx_model.specs.Journal.{is_full}
 use Rattle.jx_model.specs.Threads.{service_threads, new_threads_of, new_threads, is_of_thread, served_call, served_after, state_by_last, serving_state, last_of_thread, thread_state, is_running_state}
 use Rattle.jx_model.specs.Permits.{domain_thread, zero_may_now, zero_may, is_halt}
 use Rattle.jx_model.specs.Legal.{IsNext, IsAdmittedPast}
 use Rattle.jx_model.specs.Growth.{RunsOneThread, Runs}
-use Rattle.jx_model.proofs.Kit.{ap2, ap3, both, eq_of, and_false}
+use Rattle.jx_base.proofs.BasicLaws.{ap2, ap3, both, eq_of, and_false}
 use Rattle.jx_model.proofs.Acting.{acting_cases, domain_cases, acting_within, running_runs, none_runs}
 
 -- ---- threads of other entries

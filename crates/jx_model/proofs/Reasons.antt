@@ -5,8 +5,9 @@ use Rattle.jx_base.specs.declared.act.Act.TheVariants as act
 use Rattle.jx_base.specs.declared.program.System.{System}
 use Rattle.jx_base.specs.declared.states.Why.{Why}
 use Rattle.jx_base.specs.declared.states.Why.TheVariants as why
-use Rattle.jx_model.specs.Words.{and_then, mapped, is_number}
-use Rattle.jx_model.specs.Histories.{Past, is_full, words_of}
+use Rattle.jx_base.specs.Basics.{and_then, mapped, is_number}
+use Rattle.jx_base.specs.Histories.{Past}
+use Rattle.jx_model.specs.Journal.{is_full, words_of}
 use Rattle.jx_model.specs.Domains.{is_live}
 use Rattle.jx_model.specs.Threads.{running_thread}
 use Rattle.jx_model.specs.Calls.{service_of_call}

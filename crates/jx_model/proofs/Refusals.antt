@@ -13,12 +13,12 @@ use Rattle.jx_base.specs.declared.act.Entry.{Entry}
 use Rattle.jx_base.specs.declared.program.System.{System}
 use Rattle.jx_base.specs.declared.ids.ServiceId.{ServiceId}
 use Rattle.jx_base.specs.declared.value.Parcel.{Parcel}
-use Rattle.jx_model.specs.Words.{and_then, mapped, passes, is_number, contains_number}
-use Rattle.jx_model.specs.Histories.{Past, is_done, is_own}
+use Rattle.jx_base.specs.Basics.{and_then, mapped, passes, is_number, contains_number}
+use Rattle.jx_base.specs.Histories.{Past, is_done, is_own}
 use Rattle.jx_model.specs.Domains.{is_birth, makes_domain, birth_of, template_of, creator_of, heap_place_of, named_template, reply_granule, ended_by, ended_by_act, reason_for, end_reason, is_live, is_made}
 use Rattle.jx_model.specs.Threads.{service_threads, new_threads_of, new_threads}
 use Rattle.jx_model.specs.Portals.{is_export, exported_interface, export_of, owner_of, interface_of, has_live_owner, received_parcel, received_service, gives_portal, holds_portal, bound_by_act, last_bound, bound_service}
-use Rattle.jx_model.specs.ParcelParts.{parcel_portals}
+use Rattle.program_model.specs.ParcelParts.{parcel_portals}
 use Rattle.jx_model.specs.Calls.{Answer, is_call, asked_by, queued_as, call_entry, asked_of, caller_of, first_since, answered_by, answered_by_act, ends_server, ends_domain, server_of, answer_of, is_answer_to}
 use Rattle.jx_model.specs.MemoryObjects.{Part, is_allocation, makes_extent, new_parts, objects_of, objects_made, extents_made, is_valid, ends_one_of, ended_object, lineage_of}
 use Rattle.jx_model.specs.Holding.{received_objects, objects_in, is_drop_of, keeps_after, keeps_object, holds_object}
@@ -26,8 +26,8 @@ use Rattle.jx_model.specs.Bytes.{byte_at, byte_after}
 use Rattle.jx_model.specs.Replies.{reply_to}
 use Rattle.jx_model.specs.Legal.{IsNext}
 use Rattle.jx_model.specs.Growth.{HasSameDomains, HasSameServices, HasSameObjects, HasSameCalls, HasSameBytes}
-use Rattle.jx_model.proofs.Kit.{ap2, ap3, pick_false, and_true, and_false}
-use Rattle.jx_model.proofs.Numbers.{nth_same, count_same}
+use Rattle.jx_base.proofs.BasicLaws.{ap2, ap3, pick_false, and_true, and_false}
+use Rattle.jx_base.proofs.NthEntries.{nth_same, count_same}
 
 -- ---- what a refusal is no instance of
 

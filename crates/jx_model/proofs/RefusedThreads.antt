@@ -14,8 +14,8 @@ use Rattle.jx_base.specs.declared.program.System.{System}
 use Rattle.jx_base.specs.declared.value.Parcel.{Parcel}
 use Rattle.jx_base.specs.declared.states.ThreadState.{ThreadState}
 use Rattle.jx_base.specs.declared.states.ThreadState.TheVariants as thread
-use Rattle.jx_model.specs.Words.{mapped, passes, and_then}
-use Rattle.jx_model.specs.Histories.{Past, is_own}
+use Rattle.jx_base.specs.Basics.{mapped, passes, and_then}
+use Rattle.jx_base.specs.Histories.{Past, is_own}
 use Rattle.jx_model.specs.Domains.{is_live}
 use Rattle.jx_model.specs.Threads.{service_threads, is_of_thread, served_call, served_after, state_after, state_by_last, serving_state, last_of_thread, thread_state, is_running_state}
 use Rattle.jx_model.specs.Calls.{Asked, Answer, asked_of, answer_of, answered_by, answered_by_act, answer_by_reply, ends_server, refused_answer}
@@ -23,7 +23,7 @@ use Rattle.jx_model.specs.Permits.{acting_thread, is_halt, zero_may, may_perform
 use Rattle.jx_model.specs.Replies.{reply_to, job_of, or_done, answer_reply}
 use Rattle.jx_model.specs.Legal.{IsNext, IsAdmittedPast}
 use Rattle.jx_model.specs.Growth.{RefusalsChangeNothing, IsIdle, IsAnsweredWith, answers_call}
-use Rattle.jx_model.proofs.Kit.{ap2, ap3, and_true, both, eq_of, same_number}
+use Rattle.jx_base.proofs.BasicLaws.{ap2, ap3, and_true, both, eq_of, same_number}
 use Rattle.jx_model.proofs.Growing.{moment, before_admitted}
 use Rattle.jx_model.proofs.Acting.{acting_cases, domain_cases, running_runs, running_live}
 use Rattle.jx_model.proofs.OneThread.{state_with, other_thread}

@@ -14,16 +14,17 @@ use Rattle.jx_base.specs.declared.value.Parcel.{Parcel}
 use Rattle.jx_base.specs.declared.program.System.{System}
 use Rattle.jx_base.specs.declared.states.ThreadState.{ThreadState}
 use Rattle.jx_base.specs.declared.states.ThreadState.TheVariants as thread
-use Rattle.jx_model.specs.Words.{up_to, is_number, and_then, mapped, passes}
-use Rattle.jx_model.specs.Histories.{Past, is_full, is_own, nth_entry}
+use Rattle.jx_base.specs.Basics.{up_to, is_number, and_then, mapped, passes}
+use Rattle.jx_base.specs.Histories.{Past, is_own, nth_entry}
+use Rattle.jx_model.specs.Journal.{is_full}
 use Rattle.jx_model.specs.Domains.{is_live, is_made, end_reason, reason_for, ended_by}
 use Rattle.jx_model.specs.Threads.{thread_state, state_by_last, state_after, serving_state, served_call, served_after, is_of_thread, last_of_thread, service_threads, running_thread}
 use Rattle.jx_model.specs.Portals.{owner_of, export_of, is_export}
 use Rattle.jx_model.specs.Calls.{Answer, is_call, calls_made, answer_of, answered_by, answered_by_act, ends_domain, ends_server, server_of, answer_by_reply, thrown, service_of_call, is_take_of, is_queued, is_unanswered, queued_calls, waiting_calls, queue_head, call_entry, is_taken}
 use Rattle.jx_model.specs.Permits.{acting_thread, domain_thread, zero_may, zero_may_now, is_halt, may_perform, is_serving, is_zero_act, is_choice, choice_thread, taking_thread, is_head, idle_thread}
 use Rattle.jx_model.specs.Legal.{IsNext, IsAdmittedPast}
-use Rattle.jx_model.proofs.Kit.{both, eq_of}
-use Rattle.jx_model.proofs.Numbers.{nth_old, nth_passes, count_grows}
+use Rattle.jx_base.proofs.BasicLaws.{both, eq_of}
+use Rattle.jx_base.proofs.NthEntries.{nth_old, nth_passes, count_grows}
 use Rattle.jx_model.proofs.CallSteps.{answer_made, service_made, taken_made}
 use Rattle.jx_model.proofs.Acting.{acting_cases}
 

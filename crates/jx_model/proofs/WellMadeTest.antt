@@ -14,14 +14,15 @@ use Rattle.jx_base.specs.declared.value.Parcel.{Parcel}
 use Rattle.jx_base.specs.declared.value.Word.{Word}
 use Rattle.jx_base.specs.declared.value.Word.TheVariants as word
 use Rattle.jx_base.specs.declared.program.System.{System}
-use Rattle.jx_model.specs.Words.{is_number, mapped}
-use Rattle.jx_model.specs.Limits.{text_limit, name_limit, thread_limit, node_limit, parcel_limit}
-use Rattle.jx_model.specs.ParcelParts.{parcel_cells, parcel_words}
-use Rattle.jx_model.specs.Histories.{Past}
+use Rattle.jx_base.specs.Basics.{is_number, mapped}
+use Rattle.program_model.specs.Limits.{text_limit, name_limit, thread_limit, node_limit, parcel_limit}
+use Rattle.program_model.specs.ParcelParts.{parcel_cells, parcel_words}
+use Rattle.jx_base.specs.Histories.{Past}
 use Rattle.jx_model.specs.Portals.{interface_of}
-use Rattle.jx_model.specs.Lookup.{class_at, selector_at, template_at}
-use Rattle.jx_model.specs.WellMade.{IsInt, IsText, IsNameUnit, IsServiceName, IsWidth, IsWordIn, IsClass, IsParcelIn, IsWellMadeTest, has_bits, is_int, is_text, is_name_unit, is_service_name, is_width, is_word_in, is_class, is_parcel_in, is_exception, is_end_reason, is_well_made}
-use Rattle.jx_model.proofs.Kit.{eq_of, same_number}
+use Rattle.program_model.specs.Lookup.{class_at, selector_at, template_at}
+use Rattle.program_model.specs.Ranges.{IsInt, IsText, IsNameUnit, IsServiceName, IsWidth, has_bits, is_int, is_text, is_name_unit, is_service_name, is_width}
+use Rattle.jx_model.specs.WellMade.{IsWordIn, IsClass, IsParcelIn, IsWellMadeTest, is_word_in, is_class, is_parcel_in, is_exception, is_end_reason, is_well_made}
+use Rattle.jx_base.proofs.BasicLaws.{eq_of, same_number}
 
 below : (a b : ℕ) → Decides (nat_lt a b) (a < b)
 below a b = Decides-ltb a b

@@ -2,8 +2,8 @@
 use Rattle.std.specs.Prelude.{ℕ, zero, suc, ◌+◌, ◌-◌, ◌*◌, Bool, true, false, ◌&&◌, List, [], ◌∷◌, Option, Some, None, ◌==◌, nat_lt, nat_le, if◌then◌else◌}
 use Rattle.jx_base.specs.declared.act.Act.{Act}
 use Rattle.jx_base.specs.declared.act.Act.TheVariants as act
-use Rattle.jx_model.specs.Words.{numbered, not_below_zero, low_byte}
-use Rattle.jx_model.specs.Histories.{Past, is_done}
+use Rattle.jx_base.specs.Basics.{numbered, not_below_zero, low_byte}
+use Rattle.jx_base.specs.Histories.{Past, is_done}
 use Rattle.jx_model.specs.MemoryObjects.{Part, objects_of}
 
 -- whether byte i of extent x is one of so many bytes of the object from there

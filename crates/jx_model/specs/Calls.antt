@@ -15,8 +15,8 @@ use Rattle.jx_base.specs.declared.states.CallState.TheVariants as call
 use Rattle.jx_base.specs.declared.states.AnswerKind.{AnswerKind}
 use Rattle.jx_base.specs.declared.states.AnswerKind.TheVariants as kind
 use Rattle.jx_base.specs.declared.value.Parcel.{Parcel}
-use Rattle.jx_model.specs.Words.{and_then, mapped, passes, up_to, is_number}
-use Rattle.jx_model.specs.Histories.{Past, nth_entry, count_where}
+use Rattle.jx_base.specs.Basics.{and_then, mapped, passes, up_to, is_number}
+use Rattle.jx_base.specs.Histories.{Past, nth_entry, count_where}
 use Rattle.jx_model.specs.Domains.{is_live, ended_by}
 use Rattle.jx_model.specs.Portals.{owner_of}
 

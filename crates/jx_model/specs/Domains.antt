@@ -10,8 +10,8 @@ use Rattle.jx_base.specs.declared.act.Reason.{Reason}
 use Rattle.jx_base.specs.declared.act.Reason.TheVariants as reason
 use Rattle.jx_base.specs.declared.act.Entry.{Entry}
 use Rattle.jx_base.specs.declared.program.System.{System}
-use Rattle.jx_model.specs.Words.{and_then, mapped, not_below_zero}
-use Rattle.jx_model.specs.Histories.{Past, is_done, nth_entry, count_where}
+use Rattle.jx_base.specs.Basics.{and_then, mapped, not_below_zero}
+use Rattle.jx_base.specs.Histories.{Past, is_done, nth_entry, count_where}
 
 -- ---- which domains were made
 

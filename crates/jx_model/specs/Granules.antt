@@ -2,9 +2,9 @@
 use Rattle.std.specs.Prelude.{ℕ, zero, suc, ◌+◌, ◌-◌, Bool, true, false, ◌&&◌, not, List, [], ◌∷◌, ◌++◌, Option, Some, None, nat_lt, nat_le, if◌then◌else◌, filter_map, slice_get}
 use Rattle.std.specs.List.{list_any, list_all, range_with_len}
 use Rattle.jx_base.specs.declared.program.System.{System}
-use Rattle.jx_model.specs.Words.{mapped, up_to, parts_of, or_zero}
-use Rattle.jx_model.specs.Limits.{granule_limit, granule_bytes, granule_cells}
-use Rattle.jx_model.specs.Histories.{Past}
+use Rattle.jx_base.specs.Basics.{mapped, up_to, parts_of, or_zero}
+use Rattle.program_model.specs.Limits.{granule_limit, granule_bytes, granule_cells}
+use Rattle.jx_base.specs.Histories.{Past}
 use Rattle.jx_model.specs.Domains.{is_live, domains_made, template_of, heap_place_of, reply_granule}
 use Rattle.jx_model.specs.MemoryObjects.{extents_made, allocation_of, allocated_bytes}
 use Rattle.jx_model.specs.Holding.{is_extent_in_use}

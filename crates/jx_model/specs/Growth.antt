@@ -9,8 +9,8 @@ use Rattle.jx_base.specs.declared.act.Entry.{Entry}
 use Rattle.jx_base.specs.declared.ids.ServiceId.{ServiceId}
 use Rattle.jx_base.specs.declared.states.ThreadState.TheVariants as thread
 use Rattle.jx_base.specs.declared.program.System.{System}
-use Rattle.jx_model.specs.Words.{passes, up_to}
-use Rattle.jx_model.specs.Histories.{Past}
+use Rattle.jx_base.specs.Basics.{passes, up_to}
+use Rattle.jx_base.specs.Histories.{Past}
 use Rattle.jx_model.specs.Moments.{IsMoment}
 use Rattle.jx_model.specs.Domains.{is_live, domains_made, template_of, creator_of, heap_place_of, end_reason}
 use Rattle.jx_model.specs.Threads.{thread_state, is_running_state, service_threads, is_of_thread}

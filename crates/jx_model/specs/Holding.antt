@@ -7,9 +7,9 @@ use Rattle.jx_base.specs.declared.act.Reply.{Reply}
 use Rattle.jx_base.specs.declared.act.Reply.TheVariants as reply
 use Rattle.jx_base.specs.declared.act.Entry.{Entry}
 use Rattle.jx_base.specs.declared.value.Parcel.{Parcel}
-use Rattle.jx_model.specs.Words.{passes, up_to, contains_number}
-use Rattle.jx_model.specs.ParcelParts.{parcel_objects}
-use Rattle.jx_model.specs.Histories.{Past, is_done, is_own}
+use Rattle.jx_base.specs.Basics.{passes, up_to, contains_number}
+use Rattle.program_model.specs.ParcelParts.{parcel_objects}
+use Rattle.jx_base.specs.Histories.{Past, is_done, is_own}
 use Rattle.jx_model.specs.Domains.{is_made, is_live, domains_made}
 use Rattle.jx_model.specs.Portals.{received_parcel}
 use Rattle.jx_model.specs.Calls.{Asked, Answer, calls_made, is_queued, asked_of, answer_of, has_live_caller, is_resumed}

@@ -4,12 +4,12 @@ use Rattle.jx_base.specs.declared.act.Act.{Act}
 use Rattle.jx_base.specs.declared.act.Entry.{Entry}
 use Rattle.jx_base.specs.declared.act.History.{History}
 use Rattle.jx_base.specs.declared.program.System.{System}
-use Rattle.jx_model.specs.Histories.{Past, past_of, own_entries}
+use Rattle.jx_base.specs.Histories.{Past, past_of, own_entries}
 use Rattle.jx_model.specs.Domains.{domains_made, template_of}
 use Rattle.jx_model.specs.Permits.{acting_thread, is_ending, is_choice}
 use Rattle.jx_model.specs.Replies.{reply_to}
 use Rattle.jx_model.specs.WellMade.{IsWellMade}
-use Rattle.jx_model.specs.Machine.{NextAct, Does, Idle, next_act}
+use Rattle.machine_model.specs.Machine.{NextAct, Does, Idle, next_act}
 
 -- the entry may come after this past: its act is permitted and well made, and it has the thread and the reply that the past gives
 pub record IsNext (s : System) (past : Past) (e : Entry) : Type 0 where

@@ -5,8 +5,8 @@ use Rattle.jx_base.specs.declared.act.Act.TheVariants as act
 use Rattle.jx_base.specs.declared.act.Reply.{Reply}
 use Rattle.jx_base.specs.declared.act.Reply.TheVariants as reply
 use Rattle.jx_base.specs.declared.act.Entry.{Entry}
-use Rattle.jx_model.specs.Words.{mapped, passes, contains_number, numbered, not_below_zero}
-use Rattle.jx_model.specs.Histories.{Past, is_done, nth_entry, count_where}
+use Rattle.jx_base.specs.Basics.{mapped, passes, contains_number, numbered, not_below_zero}
+use Rattle.jx_base.specs.Histories.{Past, is_done, nth_entry, count_where}
 
 -- ---- extents
 

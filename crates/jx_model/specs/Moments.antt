@@ -3,7 +3,7 @@ use Rattle.std.specs.Prelude.{◌≡◌, Bool, false, ◌∷◌, ◌++◌}
 use Rattle.std.specs.List.{list_any}
 use Rattle.jx_base.specs.declared.act.Entry.{Entry}
 use Rattle.jx_base.specs.declared.act.History.{History}
-use Rattle.jx_model.specs.Histories.{Past}
+use Rattle.jx_base.specs.Histories.{Past}
 
 -- the entry stands in the whole past, with this past before it
 abbrev pub IsMoment : Past → Entry → Past → Type 0

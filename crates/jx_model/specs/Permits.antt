@@ -7,8 +7,9 @@ use Rattle.jx_base.specs.declared.act.Entry.{Entry}
 use Rattle.jx_base.specs.declared.states.ThreadState.{ThreadState}
 use Rattle.jx_base.specs.declared.states.ThreadState.TheVariants as thread
 use Rattle.jx_base.specs.declared.program.System.{System}
-use Rattle.jx_model.specs.Words.{and_then, mapped, passes, is_number, up_to, or_else, first_some}
-use Rattle.jx_model.specs.Histories.{Past, is_full, count_where}
+use Rattle.jx_base.specs.Basics.{and_then, mapped, passes, is_number, up_to, or_else, first_some}
+use Rattle.jx_base.specs.Histories.{Past, count_where}
+use Rattle.jx_model.specs.Journal.{is_full}
 use Rattle.jx_model.specs.Domains.{domains_made, is_live}
 use Rattle.jx_model.specs.Threads.{service_threads, thread_state, thread_where, threads_of, running_thread}
 use Rattle.jx_model.specs.Calls.{queue_head, is_resumable, service_of_call, server_of}

@@ -9,9 +9,9 @@ use Rattle.jx_base.specs.declared.act.Reply.TheVariants as reply
 use Rattle.jx_base.specs.declared.act.Entry.{Entry}
 use Rattle.jx_base.specs.declared.ids.ClassId.{ClassId}
 use Rattle.jx_base.specs.declared.value.Parcel.{Parcel}
-use Rattle.jx_model.specs.Words.{and_then, mapped, passes, contains_number, is_number}
-use Rattle.jx_model.specs.ParcelParts.{parcel_portals}
-use Rattle.jx_model.specs.Histories.{Past, is_done, is_own, nth_entry, count_where}
+use Rattle.jx_base.specs.Basics.{and_then, mapped, passes, contains_number, is_number}
+use Rattle.program_model.specs.ParcelParts.{parcel_portals}
+use Rattle.jx_base.specs.Histories.{Past, is_done, is_own, nth_entry, count_where}
 use Rattle.jx_model.specs.Domains.{is_live}
 
 -- ---- services

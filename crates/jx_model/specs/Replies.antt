@@ -14,10 +14,10 @@ use Rattle.jx_base.specs.declared.ids.ObjectId.{ObjectId}
 use Rattle.jx_base.specs.declared.ids.ServiceId.{ServiceId}
 use Rattle.jx_base.specs.declared.value.Parcel.{Parcel}
 use Rattle.jx_base.specs.declared.program.System.{System}
-use Rattle.jx_model.specs.Words.{and_then, passes, is_number, not_below_zero}
-use Rattle.jx_model.specs.Limits.{domain_limit, service_limit, object_limit, allocation_limit}
-use Rattle.jx_model.specs.ParcelParts.{parcel_portals, parcel_objects}
-use Rattle.jx_model.specs.Histories.{Past}
+use Rattle.jx_base.specs.Basics.{and_then, passes, is_number, not_below_zero}
+use Rattle.program_model.specs.Limits.{domain_limit, service_limit, object_limit, allocation_limit}
+use Rattle.program_model.specs.ParcelParts.{parcel_portals, parcel_objects}
+use Rattle.jx_base.specs.Histories.{Past}
 use Rattle.jx_model.specs.Domains.{domains_made, is_made, is_live, template_named, template_of, creator_of}
 use Rattle.jx_model.specs.Portals.{services_made, owner_of, interface_of, has_live_owner, holds_portal, bound_service}
 use Rattle.jx_model.specs.Calls.{Asked, Answer, calls_made, asked_of, caller_of, has_live_caller, answer_of}
@@ -25,8 +25,8 @@ use Rattle.jx_model.specs.MemoryObjects.{Part, object_part, objects_made, is_val
 use Rattle.jx_model.specs.Holding.{holds_object}
 use Rattle.jx_model.specs.Granules.{first_fit, heap_granules, extent_granules}
 use Rattle.jx_model.specs.Bytes.{number_at}
-use Rattle.jx_model.specs.Lookup.{has_method}
-use Rattle.jx_model.specs.Parcels.{fits_domain}
+use Rattle.program_model.specs.Lookup.{has_method}
+use Rattle.program_model.specs.Parcels.{fits_domain}
 
 -- ---- refusals
 

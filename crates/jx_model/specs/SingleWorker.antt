@@ -5,14 +5,15 @@ use Rattle.jx_base.specs.declared.act.Act.TheVariants as act
 use Rattle.jx_base.specs.declared.act.Entry.{Entry}
 use Rattle.jx_base.specs.declared.act.History.{History}
 use Rattle.jx_base.specs.declared.program.System.{System}
-use Rattle.jx_model.specs.Words.{and_then, or_zero, or_else, up_to}
-use Rattle.jx_model.specs.Limits.{journal_limit}
-use Rattle.jx_model.specs.Histories.{Past, past_of, own_entries, is_full}
+use Rattle.jx_base.specs.Basics.{and_then, or_zero, or_else, up_to}
+use Rattle.program_model.specs.Limits.{journal_limit}
+use Rattle.jx_base.specs.Histories.{Past, past_of, own_entries}
+use Rattle.jx_model.specs.Journal.{is_full}
 use Rattle.jx_model.specs.Domains.{domains_made, template_of}
 use Rattle.jx_model.specs.Permits.{acting_thread, is_over, next_boot, can_act, first_alive, first_choice}
 use Rattle.jx_model.specs.Replies.{reply_to}
 use Rattle.jx_model.specs.Legal.{IsComplete}
-use Rattle.jx_model.specs.Machine.{NextAct, Does, Idle, next_act}
+use Rattle.machine_model.specs.Machine.{NextAct, Does, Idle, next_act}
 
 -- ---- what the worker picks
 

@@ -9,9 +9,9 @@ use Rattle.jx_base.specs.declared.states.DomainState.{DomainState}
 use Rattle.jx_base.specs.declared.states.ThreadState.{ThreadState}
 use Rattle.jx_base.specs.declared.states.ThreadState.TheVariants as thread
 use Rattle.jx_base.specs.declared.program.System.{System}
-use Rattle.jx_model.specs.Words.{or_zero, mapped, up_to}
-use Rattle.jx_model.specs.Limits.{granule_limit}
-use Rattle.jx_model.specs.Histories.{Past}
+use Rattle.jx_base.specs.Basics.{or_zero, mapped, up_to}
+use Rattle.program_model.specs.Limits.{granule_limit}
+use Rattle.jx_base.specs.Histories.{Past}
 use Rattle.jx_model.specs.Domains.{domains_made, template_of, creator_of, heap_place_of, end_reason}
 use Rattle.jx_model.specs.Threads.{thread_state, threads_of, served_call}
 use Rattle.jx_model.specs.Portals.{services_made, owner_of, interface_of, holds_portal, bound_service}

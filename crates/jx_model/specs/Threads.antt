@@ -10,8 +10,8 @@ use Rattle.jx_base.specs.declared.ids.ServiceId.{ServiceId}
 use Rattle.jx_base.specs.declared.ids.CallId.{CallId}
 use Rattle.jx_base.specs.declared.states.ThreadState.{ThreadState}
 use Rattle.jx_base.specs.declared.states.ThreadState.TheVariants as thread
-use Rattle.jx_model.specs.Words.{mapped, passes}
-use Rattle.jx_model.specs.Histories.{Past, is_own}
+use Rattle.jx_base.specs.Basics.{mapped, passes}
+use Rattle.jx_base.specs.Histories.{Past, is_own}
 use Rattle.jx_model.specs.Domains.{is_live}
 
 -- the services of the threads that an export adds

@@ -12,35 +12,13 @@ use Rattle.jx_base.specs.declared.value.Parcel.{Parcel}
 use Rattle.jx_base.specs.declared.value.Word.{Word}
 use Rattle.jx_base.specs.declared.value.Word.TheVariants as word
 use Rattle.jx_base.specs.declared.program.System.{System}
-use Rattle.jx_model.specs.Words.{is_number, mapped}
-use Rattle.jx_model.specs.Limits.{text_limit, name_limit, thread_limit, node_limit, parcel_limit}
-use Rattle.jx_model.specs.ParcelParts.{parcel_cells, parcel_words}
-use Rattle.jx_model.specs.Histories.{Past}
+use Rattle.jx_base.specs.Basics.{is_number, mapped}
+use Rattle.program_model.specs.Limits.{text_limit, name_limit, thread_limit, node_limit, parcel_limit}
+use Rattle.program_model.specs.ParcelParts.{parcel_cells, parcel_words}
+use Rattle.jx_base.specs.Histories.{Past}
 use Rattle.jx_model.specs.Portals.{interface_of}
-use Rattle.jx_model.specs.Lookup.{class_at, selector_at, template_at}
-
--- a number of 32 bits with a sign
-abbrev pub IsInt : ℤ → Type 0
-IsInt n = FitsSigned w32 n
-
--- a text of units of sixteen bits, within the limit
-pub record IsText (units : List ℕ) : Type 0 where
-  pub short : length units ≤ text_limit
-  pub sixteen_bits : AllByRecursion (λ u. u < 2 ^ 16) units
-
--- a printable unit that is no blank
-abbrev pub IsNameUnit : ℕ → Type 0
-IsNameUnit u = (33 ≤ u) × (u ≤ 126)
-
--- a name that a service can be bound to
-pub record IsServiceName (units : List ℕ) : Type 0 where
-  pub present : 1 ≤ length units
-  pub short : length units ≤ name_limit
-  pub printable : AllByRecursion IsNameUnit units
-
--- a width of one, two or four bytes
-abbrev pub IsWidth : ℕ → Type 0
-IsWidth w = (w ≡ 1) ⊎ (w ≡ 2) ⊎ (w ≡ 4)
+use Rattle.program_model.specs.Lookup.{class_at, selector_at, template_at}
+use Rattle.program_model.specs.Ranges.{IsInt, IsText, IsServiceName, IsWidth, has_bits, is_int, is_text, is_service_name, is_width}
 
 -- a word within its range; a portal names a service that was exported, with its interface
 abbrev pub IsWordIn : Past → ℕ → Word → Type 0
@@ -86,31 +64,6 @@ IsWellMade s past (act.End r) = (r ≡ reason.Fuel) ⊎ (r ≡ reason.BadCode)
 IsWellMade s past _ = Unit {0}
 
 -- ---- the same as tests
-
--- whether the number has so many bits besides its sign
-unfoldable pub has_bits : ℕ → ℤ → Bool
-has_bits bits (pos n) = nat_lt n (2 ^ bits)
-has_bits bits (negsuc n) = nat_lt n (2 ^ bits)
-
--- whether it is a number of 32 bits with a sign
-unfoldable pub is_int : ℤ → Bool
-is_int n = has_bits 31 n
-
--- whether it is a text
-unfoldable pub is_text : List ℕ → Bool
-is_text units = nat_le (length units) text_limit && list_all (λ u. nat_lt u (2 ^ 16)) units
-
--- whether the unit is printable and no blank
-unfoldable pub is_name_unit : ℕ → Bool
-is_name_unit u = nat_le 33 u && nat_le u 126
-
--- whether a service can be bound to the name
-unfoldable pub is_service_name : List ℕ → Bool
-is_service_name units = nat_le 1 (length units) && nat_le (length units) name_limit && list_all is_name_unit units
-
--- whether the width is one, two or four bytes
-unfoldable pub is_width : ℕ → Bool
-is_width w = (w == 1) || (w == 2) || (w == 4)
 
 -- whether the word is within its range
 unfoldable pub is_word_in : Past → ℕ → Word → Bool
@@ -192,5 +145,5 @@ IsBuilt a = IsTrue (is_built a)
 
 -- what a computed row opens
 unfoldable pub opened_well_made : Unit {0}
-unfolding has_bits is_int is_text is_name_unit is_service_name is_width is_word_in is_class is_parcel_in is_exception is_end_reason is_well_made is_built
+unfolding is_word_in is_class is_parcel_in is_exception is_end_reason is_well_made is_built
 opened_well_made = tt

@@ -6,8 +6,9 @@ use Rattle.jx_base.specs.declared.states.Why.{Why}
 use Rattle.jx_base.specs.declared.states.Why.TheVariants as why
 use Rattle.jx_base.specs.declared.ids.CallId.{CallId}
 use Rattle.jx_base.specs.declared.program.System.{System}
-use Rattle.jx_model.specs.Words.{and_then, mapped, or_zero}
-use Rattle.jx_model.specs.Histories.{Past, is_full, words_of}
+use Rattle.jx_base.specs.Basics.{and_then, mapped, or_zero}
+use Rattle.jx_base.specs.Histories.{Past}
+use Rattle.jx_model.specs.Journal.{is_full, words_of}
 use Rattle.jx_model.specs.Domains.{is_live}
 use Rattle.jx_model.specs.Threads.{running_thread}
 use Rattle.jx_model.specs.Calls.{queue_head, service_of_call}

@@ -1,11 +1,9 @@
 //! Laws of histories. Each function answers nothing and promises the law.
 
 ghost use Rattle.jx_model.specs.Growth.{GivesNumbersOnce, RefusalsChangeNothing, RunsOneThread};
-ghost use Rattle.jx_model.specs.Histories.{past_of};
-ghost use Rattle.jx_model.specs.Laws.{ReceivedHolds};
+ghost use Rattle.jx_base.specs.Histories.{past_of};
 ghost use Rattle.jx_model.specs.Legal.{IsAdmitted};
 ghost use Rattle.jx_model.specs.Moments.{BeginsWith};
-ghost use Rattle.jx_model.specs.Parcels.{WalksEnd};
 ghost use Rattle.jx_model.specs.WellMade.{IsWellMade, IsWellMadeTest};
 ghost use Rattle.jx_model.specs.WhyNot.{CanBeAsked, IsTold};
 
@@ -23,12 +21,6 @@ pub fn act_stays_well_made(system: &System, start: &History, whole: &History, ac
     requires begins { BeginsWith whole.now start.now }
     requires well_made { IsWellMade system.now (past_of start.now) act.now }
     ensures { IsWellMade system.now (past_of whole.now) act.now }
-{}
-
-/// Each queued call is through a portal that its caller held, and so is all that its parcel carries.
-pub fn portals_are_received(system: &System, history: &History)
-    requires { IsAdmitted system.now history.now }
-    ensures { ReceivedHolds (past_of history.now) }
 {}
 
 /// Domains, services, calls and memory objects are numbered from 1, each number given once.
@@ -58,9 +50,4 @@ pub fn reasons_are_told(system: &System, history: &History, domain: DomainId, ac
 /// The test of what is well made says what is.
 pub fn well_made_is_tested(system: &System, history: &History, act: &Act)
     ensures { IsWellMadeTest system.now (past_of history.now) act.now }
-{}
-
-/// The rounds of the walk of a parcel end in the one walk.
-pub fn walks_end()
-    ensures { WalksEnd }
 {}

@@ -5,15 +5,15 @@ use Rattle.std.proofs.lemmas.List.{append_cancel_right}
 use Rattle.jx_base.specs.declared.class_file.ClassFile.{ClassFile}
 use Rattle.jx_base.specs.declared.class_file.Instr.{Instr}
 use Rattle.jx_base.specs.Files.{Files, HasLongFile, longest_file}
-use Rattle.jx_base.specs.Parts.{opened_parts}
-use Rattle.jx_base.specs.Flags.{opened_flags}
-use Rattle.jx_base.specs.Opcodes.{opened_opcodes}
-use Rattle.jx_base.specs.ModifiedUtf8.{opened_utf8}
-use Rattle.jx_base.specs.Descriptors.{opened_descriptors}
-use Rattle.jx_base.specs.Constants.{opened_constants}
-use Rattle.jx_base.specs.Members.{opened_members}
-use Rattle.jx_base.specs.ClassGrammar.{IsClassFile, class_file_part, opened_class_grammar}
-use Rattle.jx_base.specs.CodeGrammar.{opened_code_grammar}
+use Rattle.class_grammar.specs.Parts.{opened_parts}
+use Rattle.class_grammar.specs.Flags.{opened_flags}
+use Rattle.class_grammar.specs.Opcodes.{opened_opcodes}
+use Rattle.class_grammar.specs.ModifiedUtf8.{opened_utf8}
+use Rattle.class_grammar.specs.Descriptors.{opened_descriptors}
+use Rattle.class_grammar.specs.Constants.{opened_constants}
+use Rattle.class_grammar.specs.Members.{opened_members}
+use Rattle.class_grammar.specs.ClassGrammar.{IsClassFile, class_file_part, opened_class_grammar}
+use Rattle.class_grammar.specs.CodeGrammar.{opened_code_grammar}
 use Rattle.class_reader.proofs.ClassLaws.{lawful_class_file}
 use Rattle.code_reader.specs.CodeReading.{code_reading}
 use Rattle.code_reader.proofs.ReadingLaws.{code_found}

@@ -9,14 +9,14 @@ use Rattle.jx_base.specs.declared.program.Plan.{Plan}
 use Rattle.jx_base.specs.declared.class_file.ClassFile.{ClassFile}
 use Rattle.jx_base.specs.declared.program.System.{System}
 use Rattle.first_class.specs.FirstClass.{first_class, first_constants, first_main, first_code}
-use Rattle.jx_model.specs.AuditText.{audit_text}
-use Rattle.jx_model.specs.Linking.{linked_system}
-use Rattle.jx_model.specs.LinkFaults.{IsLinked}
+use Rattle.audit_model.specs.AuditText.{audit_text}
+use Rattle.link_model.specs.Linking.{linked_system}
+use Rattle.link_model.specs.LinkFaults.{IsLinked}
 use Rattle.jx_model.specs.SingleWorker.{IsSingleWorkerHistory}
-use Rattle.jx_model.proofs.Examples.{is_linked}
-use Rattle.jx_model.proofs.FirstClass.{hello_audit}
-use Rattle.jx_model.proofs.FirstComplete.{hello_history, hello_is_single, hello_has_audit}
-use Rattle.jx_model.proofs.Hello.{hello_plan, hello_file, hello_system, hello_links}
+use Rattle.first_class.proofs.HelloLinked.{is_linked}
+use Rattle.first_class.proofs.FirstClass.{hello_audit}
+use Rattle.first_class.proofs.FirstComplete.{hello_history, hello_is_single, hello_has_audit}
+use Rattle.first_class.proofs.Hello.{hello_plan, hello_file, hello_system, hello_links}
 use Rattle.system_text.specs.Description.{one_class_plan}
 use Rattle.jx_top.specs.FirstRun.{one_print, own_name, printed_text}
 use Rattle.jx_top.specs.Running.{IsRunOf}

@@ -8,10 +8,10 @@ use Rattle.jx_base.specs.declared.program.Selector.{Selector}
 use Rattle.jx_base.specs.declared.program.System.{System}
 use Rattle.jx_base.specs.declared.class_file.ClassFile.{ClassFile}
 use Rattle.first_class.specs.FirstClass.{first_class}
-use Rattle.jx_model.specs.BuiltIn.{built_in_table}
-use Rattle.jx_model.specs.Linking as linking
-use Rattle.jx_model.specs.Linking.{built_in_sources_from, file_sources_from, sources, linked_selectors, linked_method, outline, linked_system}
-use Rattle.jx_model.specs.Opened.{opened_model}
+use Rattle.program_model.specs.BuiltIn.{built_in_table}
+use Rattle.link_model.specs.Linking as linking
+use Rattle.link_model.specs.Linking.{built_in_sources_from, file_sources_from, sources, linked_selectors, linked_method, outline, linked_system}
+use Rattle.opened_models.specs.Opened.{opened_model}
 use Rattle.linker_members.proofs.AllSources.{all_sources, first_selectors_are_few}
 use Rattle.linker_classes.specs.FirstPlan.{first_plan}
 use Rattle.jx_top.specs.FirstSystem.{first_files, first_system}

@@ -3,7 +3,7 @@ use Rattle.std.specs.Prelude.{◌≡◌, ℕ, List, [], ◌∷◌, Option, Some,
 use Rattle.std.proofs.Common.{subst, sym}
 use Rattle.jx_base.specs.Files.{Files}
 use Rattle.first_class.specs.FirstClass.{first_class}
-use Rattle.jx_model.specs.LinkFaults.{IsLinked}
+use Rattle.link_model.specs.LinkFaults.{IsLinked}
 use Rattle.jx_top.specs.Classes.{IsReadClass}
 use Rattle.system_text.specs.Description.{one_class_plan}
 use Rattle.jx_top.specs.FirstRun.{own_name}

@@ -9,10 +9,10 @@ use Rattle.jx_base.specs.declared.fault.ClassFault.{ClassFault}
 use Rattle.jx_base.specs.declared.fault.ClassKind.{ClassKind}
 use Rattle.jx_base.specs.declared.fault.CodeFault.{CodeFault}
 use Rattle.jx_base.specs.declared.fault.CodeKind.{CodeKind}
-use Rattle.jx_base.specs.ClassGrammar.{IsClassFile, IsClassFault, class_file_part}
-use Rattle.jx_base.specs.CodeGrammar.{IsCodeFault, code_fault}
-use Rattle.jx_base.specs.Constants.{class_fault}
-use Rattle.jx_base.proofs.PartLaws.{one_meaning, one_fault, not_both}
+use Rattle.class_grammar.specs.ClassGrammar.{IsClassFile, IsClassFault, class_file_part}
+use Rattle.class_grammar.specs.CodeGrammar.{IsCodeFault, code_fault}
+use Rattle.class_grammar.specs.Constants.{class_fault}
+use Rattle.class_grammar.proofs.PartLaws.{one_meaning, one_fault, not_both}
 use Rattle.class_reader.proofs.ClassLaws.{lawful_class_file}
 use Rattle.code_reader.proofs.ReadingLaws.{code_only, fault_only}
 use Rattle.jx_top.specs.Classes.{IsReadCode, HasReadCode, IsReadClass, IsBadCode, HasFirstBadCode, IsBadClass}

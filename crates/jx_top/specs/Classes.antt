@@ -7,8 +7,8 @@ use Rattle.jx_base.specs.declared.class_file.Instr.{Instr}
 use Rattle.jx_base.specs.declared.class_file.Member.{Member}
 use Rattle.jx_base.specs.declared.fault.ClassKind.{ClassKind}
 use Rattle.jx_base.specs.declared.fault.CodeKind.{CodeKind}
-use Rattle.jx_base.specs.ClassGrammar.{IsClassFile, IsClassFault}
-use Rattle.jx_base.specs.CodeGrammar.{IsCode, IsCodeFault}
+use Rattle.class_grammar.specs.ClassGrammar.{IsClassFile, IsClassFault}
+use Rattle.class_grammar.specs.CodeGrammar.{IsCode, IsCodeFault}
 use Rattle.jx_top.specs.declared.class_error.ClassError.{ClassError}
 use Rattle.jx_top.specs.declared.class_error.ClassError.TheVariants as error
 use Rattle.jx_top.specs.declared.defect.Defect.{Defect}

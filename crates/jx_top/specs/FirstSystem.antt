@@ -7,7 +7,7 @@ use Rattle.jx_base.specs.declared.act.History.{History}
 use Rattle.jx_base.specs.declared.class_file.ClassFile.{ClassFile}
 use Rattle.jx_base.specs.declared.program.System.{System}
 use Rattle.first_class.specs.FirstClass.{first_class}
-use Rattle.jx_model.specs.Linking.{linked_system}
+use Rattle.link_model.specs.Linking.{linked_system}
 use Rattle.linker_classes.specs.FirstPlan.{first_plan}
 use Rattle.jx_top.specs.FirstRun.{one_print}
 

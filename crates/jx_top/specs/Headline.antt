@@ -5,8 +5,8 @@ use Rattle.jx_base.specs.Puts.{TookPrefix, with_bytes}
 use Rattle.jx_base.specs.declared.act.History.{History}
 use Rattle.jx_base.specs.declared.class_file.ClassFile.{ClassFile}
 use Rattle.jx_base.specs.declared.program.System.{System}
-use Rattle.jx_model.specs.AuditText.{audit_text}
-use Rattle.jx_model.specs.LinkFaults.{IsLinked}
+use Rattle.audit_model.specs.AuditText.{audit_text}
+use Rattle.link_model.specs.LinkFaults.{IsLinked}
 use Rattle.jx_model.specs.SingleWorker.{IsSingleWorkerHistory}
 use Rattle.jx_top.specs.Classes.{IsReadClass}
 use Rattle.system_text.specs.Description.{one_class_plan}

@@ -5,9 +5,9 @@ use Rattle.jx_base.specs.declared.act.History.{History}
 use Rattle.jx_base.specs.declared.class_file.ClassFile.{ClassFile}
 use Rattle.jx_base.specs.declared.program.System.{System}
 use Rattle.audit_text.specs.Rendering.{HasBuiltActs}
-use Rattle.jx_model.specs.AuditText.{audit_text}
+use Rattle.audit_model.specs.AuditText.{audit_text}
 use Rattle.jx_model.specs.Legal.{IsAdmitted}
-use Rattle.jx_model.specs.LinkFaults.{IsLinked}
+use Rattle.link_model.specs.LinkFaults.{IsLinked}
 use Rattle.jx_model.specs.SingleWorker.{IsSingleWorkerHistory}
 use Rattle.system_text.specs.Description.{one_class_plan}
 use Rattle.jx_top.specs.declared.status.Status.{Status}

@@ -1,6 +1,6 @@
 //! Reading a class with the code of its methods.
 ghost use Rattle.std.specs.Prelude.{◌≤◌, ◌<◌, ◌^◌, length};
-ghost use Rattle.jx_base.specs.ClassGrammar.{IsShortCode, HasShortCodes};
+ghost use Rattle.class_grammar.specs.ClassGrammar.{IsShortCode, HasShortCodes};
 ghost use Rattle.jx_top.specs.Classes.{ReadsClass, ReadsMethods, ReadsMethod, ReadsCode};
 
 use crate::class_error::ClassError;

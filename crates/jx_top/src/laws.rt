@@ -1,8 +1,8 @@
 //! Laws of the first system. The function answers nothing and promises the law.
 
 ghost use Rattle.std.specs.Prelude.{◌≡◌};
-ghost use Rattle.jx_model.specs.AuditText.{audit_text};
-ghost use Rattle.jx_model.specs.LinkFaults.{IsLinked};
+ghost use Rattle.audit_model.specs.AuditText.{audit_text};
+ghost use Rattle.link_model.specs.LinkFaults.{IsLinked};
 ghost use Rattle.jx_model.specs.SingleWorker.{IsSingleWorkerHistory};
 ghost use Rattle.linker_classes.specs.FirstPlan.{first_plan};
 ghost use Rattle.jx_top.specs.FirstSystem.{first_files, first_system, first_history, first_audit, EndsQuiet};

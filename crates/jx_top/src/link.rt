@@ -1,7 +1,7 @@
 //! Links the class that is read by now.
 ghost use Rattle.std.specs.Prelude.{◌≡◌, [], ◌∷◌, IfOk};
 ghost use Rattle.first_class.specs.FirstClass.{first_class};
-ghost use Rattle.jx_model.specs.Linking.{linked_system};
+ghost use Rattle.link_model.specs.Linking.{linked_system};
 ghost use Rattle.linker_classes.specs.FirstPlan.{first_plan};
 ghost use Rattle.jx_top.specs.FirstSystem.{first_system};
 

@@ -15,12 +15,12 @@ use Rattle.jx_base.specs.declared.program.Resolved.{Resolved}
 use Rattle.jx_base.specs.declared.program.Resolved.TheVariants as resolved
 use Rattle.jx_base.specs.declared.program.Selector.{Selector}
 use Rattle.jx_base.specs.declared.program.System.{System}
-use Rattle.jx_model.specs.BuiltIn.{array_class}
-use Rattle.jx_model.specs.ClassFiles.{text_in, class_name_in, selector_in, this_name, super_name}
-use Rattle.jx_model.specs.Instructions.{index_operand}
-use Rattle.jx_model.specs.Linking.{declared_of, in_class, own_fields, own_method}
-use Rattle.jx_base.specs.Flags.{is_static}
-use Rattle.jx_model.specs.Words.{mapped}
+use Rattle.program_model.specs.BuiltIn.{array_class}
+use Rattle.link_model.specs.ClassFiles.{text_in, class_name_in, selector_in, this_name, super_name}
+use Rattle.program_model.specs.Instructions.{index_operand}
+use Rattle.link_model.specs.Linking.{declared_of, in_class, own_fields, own_method}
+use Rattle.class_grammar.specs.Flags.{is_static}
+use Rattle.jx_base.specs.Basics.{mapped}
 use Rattle.linker_classes.specs.FirstPlan.{first_plan}
 use Rattle.linker_classes.specs.declared.outline.Outline.{Outline}
 use Rattle.linker_classes.specs.declared.constants.TheConstants.{LOAD_CONSTANT, INVOKE_STATIC}

@@ -1,6 +1,6 @@
 //! Array classes.
 ghost use Rattle.std.specs.Prelude.{◌≡◌, IfOk};
-ghost use Rattle.jx_model.specs.BuiltIn.{array_class};
+ghost use Rattle.program_model.specs.BuiltIn.{array_class};
 
 use crate::names::copy_of;
 use jx_base::{Class, ClassId, Listed, OutOfMemory, text_of};
@@ -13,7 +13,7 @@ const ARRAY_MARK: u16 = b'[' as u16;
 const NO_FLAGS: u16 = 0;
 
 /// The class of arrays of that component.
-#[tactic(auto, unfolding(jx_model::specs::BuiltIn::array_class, jx_model::specs::BuiltIn::class_below, jx_model::specs::BuiltIn::built_in_class, jx_model::specs::BuiltIn::object_class))]
+#[tactic(auto, unfolding(program_model::specs::BuiltIn::array_class, program_model::specs::BuiltIn::class_below, program_model::specs::BuiltIn::built_in_class, program_model::specs::BuiltIn::object_class))]
 pub fn array_class(alloc: Global, component: &str) -> Result<Class, OutOfMemory>
     ensures { IfOk result (λ class. class ≡ array_class component.now) }
 {

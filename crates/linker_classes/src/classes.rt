@@ -1,10 +1,10 @@
 //! The classes of a linked program.
 ghost use Rattle.std.specs.Prelude.{◌≡◌, ◌<◌, ◌^◌, [], ◌∷◌, length, map, IfOk};
 ghost use Rattle.first_class.specs.FirstClass.{first_class};
-ghost use Rattle.jx_model.specs.BuiltIn.{built_in_table};
+ghost use Rattle.program_model.specs.BuiltIn.{built_in_table};
 ghost use Rattle.std.specs.List.{filter_map};
-ghost use Rattle.jx_model.specs.ClassFiles.{class_name_in};
-ghost use Rattle.jx_model.specs.Linking.{declared_of, linked_system, outline};
+ghost use Rattle.link_model.specs.ClassFiles.{class_name_in};
+ghost use Rattle.link_model.specs.Linking.{declared_of, linked_system, outline};
 ghost use Rattle.linker_classes.specs.Classes.{class_id, class_of_file, last_instrs, outlined_classes};
 ghost use Rattle.linker_classes.specs.FirstPlan.{first_plan};
 
@@ -19,7 +19,7 @@ use jx_base::{
 };
 use std::alloc::Global;
 
-#[tactic(auto, unfolding(jx_model::specs::Linking::declared_of, jx_model::specs::ClassFiles::member_selector))]
+#[tactic(auto, unfolding(link_model::specs::Linking::declared_of, link_model::specs::ClassFiles::member_selector))]
 fn declared_of(alloc: Global, member: &Member) -> Result<Declared, OutOfMemory>
     ensures { IfOk result (λ declared. declared ≡ declared_of member.now) }
 {

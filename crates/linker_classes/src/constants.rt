@@ -1,7 +1,7 @@
 //! What the constants of a class mean.
 ghost use Rattle.std.specs.Prelude.{◌≡◌, ◌<◌, ◌^◌, length, IfOk};
 ghost use Rattle.std.specs.List.{list_any};
-ghost use Rattle.jx_model.specs.Instructions.{index_operand};
+ghost use Rattle.program_model.specs.Instructions.{index_operand};
 ghost use Rattle.linker_classes.specs.Classes.{meaning, meaning_at, meanings, system_of, uses_constant};
 
 use crate::names::{class_name_in, copy_of, selector_in, text_in};
@@ -14,7 +14,7 @@ const LOAD_CONSTANT: u8 = 0x12;
 
 const INVOKE_STATIC: u8 = 0xb8;
 
-#[tactic(auto, unfolding(jx_model::specs::Instructions::index_operand, jx_model::specs::Instructions::operand))]
+#[tactic(auto, unfolding(program_model::specs::Instructions::index_operand, program_model::specs::Instructions::operand))]
 fn first_operand(instr: &Instr) -> u32
     ensures { result ≡ index_operand instr.now 0 }
 {
@@ -37,7 +37,7 @@ fn is_used(instrs: &[Instr], index: usize) -> bool
     instrs.iter().any(|instr| uses_constant(instr, index))
 }
 
-#[tactic(auto, unfolding(jx_model::specs::Linking::own_method, jx_model::specs::Linking::in_class, jx_model::specs::Lookup::class_named, jx_model::specs::Words::and_then, jx_model::specs::Words::mapped))]
+#[tactic(auto, unfolding(link_model::specs::Linking::own_method, link_model::specs::Linking::in_class, program_model::specs::Lookup::class_named, jx_base::specs::Basics::and_then, jx_base::specs::Basics::mapped))]
 fn meaning(
     alloc: Global,
     outline: &Outline,

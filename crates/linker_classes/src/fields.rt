@@ -1,7 +1,7 @@
 //! The fields of a class.
 ghost use Rattle.std.specs.Prelude.{◌≡◌, ◌++◌, false, IfOk};
-ghost use Rattle.jx_model.specs.Linking.{field_of, own_fields};
-ghost use Rattle.jx_base.specs.Flags.{is_static};
+ghost use Rattle.link_model.specs.Linking.{field_of, own_fields};
+ghost use Rattle.class_grammar.specs.Flags.{is_static};
 ghost use Rattle.linker_classes.specs.Classes.{inherited_fields, is_of_kind};
 
 use crate::names::copy_of;
@@ -26,7 +26,7 @@ fn is_of_kind(member: &Member, statics: bool) -> bool
     }
 }
 
-#[tactic(auto, unfolding(jx_model::specs::Linking::field_of))]
+#[tactic(auto, unfolding(link_model::specs::Linking::field_of))]
 fn field_of(alloc: Global, owner: ClassId, member: &Member) -> Result<Field, OutOfMemory>
     ensures { IfOk result (λ field. field ≡ field_of owner.0 member.now) }
 {
@@ -38,7 +38,7 @@ fn field_of(alloc: Global, owner: ClassId, member: &Member) -> Result<Field, Out
 }
 
 /// The static fields that the file itself declares, or the others.
-#[tactic(auto, unfolding(jx_model::specs::Linking::own_fields))]
+#[tactic(auto, unfolding(link_model::specs::Linking::own_fields))]
 pub fn own_fields(
     alloc: Global,
     owner: ClassId,

@@ -1,12 +1,12 @@
 //! Names that a class file has by the indexes of its constants.
 ghost use Rattle.std.specs.Prelude.{◌≡◌, IfOk};
-ghost use Rattle.jx_model.specs.ClassFiles.{class_name_in, selector_in, super_name, text_in, this_name};
+ghost use Rattle.link_model.specs.ClassFiles.{class_name_in, selector_in, super_name, text_in, this_name};
 
 use jx_base::{ClassFile, Constant, Listed, OutOfMemory, Text};
 use std::alloc::Global;
 
 /// The text at the index, empty where there is none.
-#[tactic(auto, unfolding(jx_model::specs::ClassFiles::text_in, jx_model::specs::ClassFiles::text_of_constant, jx_model::specs::ClassFiles::constant_in))]
+#[tactic(auto, unfolding(link_model::specs::ClassFiles::text_in, link_model::specs::ClassFiles::text_of_constant, link_model::specs::ClassFiles::constant_in))]
 pub fn text_in(file: &ClassFile, index: u16) -> &[u16]
     ensures { result.now ≡ text_in file.now index }
 {
@@ -17,7 +17,7 @@ pub fn text_in(file: &ClassFile, index: u16) -> &[u16]
 }
 
 /// The name of the class at the index, empty where there is none.
-#[tactic(auto, unfolding(jx_model::specs::ClassFiles::class_name_in, jx_model::specs::ClassFiles::name_of_constant, jx_model::specs::ClassFiles::constant_in))]
+#[tactic(auto, unfolding(link_model::specs::ClassFiles::class_name_in, link_model::specs::ClassFiles::name_of_constant, link_model::specs::ClassFiles::constant_in))]
 pub fn class_name_in(file: &ClassFile, index: u16) -> &[u16]
     ensures { result.now ≡ class_name_in file.now index }
 {
@@ -28,7 +28,7 @@ pub fn class_name_in(file: &ClassFile, index: u16) -> &[u16]
 }
 
 /// The class's own name.
-#[tactic(auto, unfolding(jx_model::specs::ClassFiles::this_name))]
+#[tactic(auto, unfolding(link_model::specs::ClassFiles::this_name))]
 pub fn this_name(file: &ClassFile) -> &[u16]
     ensures { result.now ≡ this_name file.now }
 {
@@ -36,7 +36,7 @@ pub fn this_name(file: &ClassFile) -> &[u16]
 }
 
 /// Its super's name.
-#[tactic(auto, unfolding(jx_model::specs::ClassFiles::super_name))]
+#[tactic(auto, unfolding(link_model::specs::ClassFiles::super_name))]
 pub fn super_name(file: &ClassFile) -> &[u16]
     ensures { result.now ≡ super_name file.now }
 {
@@ -44,7 +44,7 @@ pub fn super_name(file: &ClassFile) -> &[u16]
 }
 
 /// The name and the descriptor at the index, empty where there are none.
-#[tactic(auto, unfolding(jx_model::specs::ClassFiles::selector_in, jx_model::specs::ClassFiles::selector_of_constant, jx_model::specs::ClassFiles::constant_in))]
+#[tactic(auto, unfolding(link_model::specs::ClassFiles::selector_in, link_model::specs::ClassFiles::selector_of_constant, link_model::specs::ClassFiles::constant_in))]
 pub fn selector_in(file: &ClassFile, index: u16) -> (&[u16], &[u16])
     ensures { record { name = result.0.now; descriptor = result.1.now } ≡ selector_in file.now index }
 {

@@ -1,8 +1,8 @@
 //! The search for classes and methods by their names.
 ghost use Rattle.std.specs.Prelude.{◌≡◌, ◌<◌, ◌^◌, length, slice_get};
-ghost use Rattle.jx_model.specs.Linking.{own_method};
-ghost use Rattle.jx_model.specs.Lookup.{same_selector};
-ghost use Rattle.jx_model.specs.Words.{passes};
+ghost use Rattle.link_model.specs.Linking.{own_method};
+ghost use Rattle.program_model.specs.Lookup.{same_selector};
+ghost use Rattle.jx_base.specs.Basics.{passes};
 ghost use Rattle.linker_classes.specs.Classes.{class_id, class_number, named_method, selector, system_of};
 
 use crate::outline::Outline;
@@ -18,7 +18,7 @@ pub fn class_number(classes: &[Class], name: &[u16]) -> Option<usize>
 }
 
 /// The same as an id.
-#[tactic(auto, unfolding(jx_model::specs::Words::mapped))]
+#[tactic(auto, unfolding(jx_base::specs::Basics::mapped))]
 pub fn class_id(classes: &[Class], name: &[u16]) -> Option<ClassId>
     requires { length classes.now < 2 ^ 32 }
     ensures { result ≡ class_id classes.now name.now }
@@ -27,7 +27,7 @@ pub fn class_id(classes: &[Class], name: &[u16]) -> Option<ClassId>
     Some(ClassId(number as u32))
 }
 
-#[tactic(auto, unfolding(jx_model::specs::Lookup::same_selector, jx_model::specs::Words::passes))]
+#[tactic(auto, unfolding(program_model::specs::Lookup::same_selector, jx_base::specs::Basics::passes))]
 fn is_selector(selectors: &[Selector], number: usize, name: &[u16], descriptor: &[u16]) -> bool
     ensures { result ≡ passes (same_selector (selector name.now descriptor.now)) (slice_get selectors.now number) }
 {
@@ -40,7 +40,7 @@ fn is_selector(selectors: &[Selector], number: usize, name: &[u16], descriptor: 
 }
 
 /// The place of the method of that name and descriptor that the class itself declares.
-#[tactic(auto, unfolding(jx_model::specs::Linking::own_method, jx_model::specs::Linking::is_method_of, jx_model::specs::Lookup::selector_at))]
+#[tactic(auto, unfolding(link_model::specs::Linking::own_method, link_model::specs::Linking::is_method_of, program_model::specs::Lookup::selector_at))]
 pub fn own_method(
     outline: &Outline,
     class: usize,
@@ -56,7 +56,7 @@ pub fn own_method(
 }
 
 /// The same in the class of that name.
-#[tactic(auto, unfolding(jx_model::specs::Linking::in_class, jx_model::specs::Lookup::class_named, jx_model::specs::Words::and_then))]
+#[tactic(auto, unfolding(link_model::specs::Linking::in_class, program_model::specs::Lookup::class_named, jx_base::specs::Basics::and_then))]
 pub fn named_method(
     outline: &Outline,
     class: &[u16],

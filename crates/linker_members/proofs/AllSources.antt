@@ -2,9 +2,9 @@
 use Rattle.std.proofs.Common.{◌≡◌, refl, List, [], ◌∷◌, ◌++◌, length}
 use Rattle.first_class.specs.FirstClass.{first_class, first_main, first_code}
 use Rattle.jx_base.specs.declared.class_file.ClassFile.{ClassFile}
-use Rattle.jx_model.specs.BuiltIn.{built_in_table}
-use Rattle.jx_model.specs.Linking.{built_in_sources_from, file_sources_from, linked_selectors, sources}
-use Rattle.jx_model.specs.Opened.{opened_model}
+use Rattle.program_model.specs.BuiltIn.{built_in_table}
+use Rattle.link_model.specs.Linking.{built_in_sources_from, file_sources_from, linked_selectors, sources}
+use Rattle.opened_models.specs.Opened.{opened_model}
 use Rattle.linker_members.specs.Members.{HaveKnownCode}
 
 pub all_sources : (files : List ClassFile)

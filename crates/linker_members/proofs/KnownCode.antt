@@ -5,8 +5,8 @@ use Rattle.std.proofs.lemmas.List.Folds.{list_all-map}
 use Rattle.std.proofs.lemmas.List.Sums.{AllPass-from_list_all}
 use Rattle.first_class.specs.FirstClass.{first_code}
 use Rattle.jx_base.specs.declared.class_file.Instr.{Instr}
-use Rattle.jx_model.specs.Instructions.{instructions_of}
-use Rattle.jx_model.specs.Opened.{opened_model}
+use Rattle.program_model.specs.Instructions.{instructions_of}
+use Rattle.opened_models.specs.Opened.{opened_model}
 use Rattle.linker_members.specs.declared.declarations.Source.{Source}
 use Rattle.linker_members.specs.Members.{HaveKnownCode, is_known_code, plain_instr, source_of}
 

@@ -5,8 +5,8 @@ use Rattle.std.specs.List.{list_any}
 use Rattle.std.proofs.lemmas.List.{reverse-append, append-nil, drop_more}
 use Rattle.std.proofs.lemmas.List.Sorted.{list_any-IsPermutation, IsPermutation-reverse}
 use Rattle.jx_base.specs.declared.program.Selector.{Selector}
-use Rattle.jx_model.specs.Linking.{first_selectors_after, linked_selectors}
-use Rattle.jx_model.specs.Lookup.{same_selector}
+use Rattle.link_model.specs.Linking.{first_selectors_after, linked_selectors}
+use Rattle.program_model.specs.Lookup.{same_selector}
 use Rattle.linker_members.specs.declared.declarations.Source.{Source}
 use Rattle.linker_members.specs.Members.{source_of}
 

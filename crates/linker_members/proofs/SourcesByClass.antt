@@ -3,8 +3,8 @@ use Rattle.std.proofs.Common.{◌≡◌, refl, sym, ap, ◌∙◌, ℕ, ◌+◌,
 use Rattle.std.proofs.lemmas.List.{append-nil, drop_more, map-append}
 use Rattle.jx_base.specs.declared.class_file.ClassFile.{ClassFile}
 use Rattle.jx_base.specs.declared.program.Class.{Class}
-use Rattle.jx_model.specs.Linking as linking
-use Rattle.jx_model.specs.Linking.{built_in_sources_from, file_sources, file_sources_from}
+use Rattle.link_model.specs.Linking as linking
+use Rattle.link_model.specs.Linking.{built_in_sources_from, file_sources, file_sources_from}
 use Rattle.linker_members.specs.declared.declarations.Source.{Source}
 use Rattle.linker_members.specs.Members.{built_in_source, file_source, source_of}
 

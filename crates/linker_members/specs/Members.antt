@@ -7,9 +7,9 @@ use Rattle.jx_base.specs.declared.class_file.Code.{Code}
 use Rattle.jx_base.specs.declared.class_file.Instr.{Instr}
 use Rattle.jx_base.specs.declared.class_file.Member.{Member}
 use Rattle.jx_base.specs.declared.program.Declared.{Declared}
-use Rattle.jx_model.specs.Instructions.{instructions_of}
-use Rattle.jx_model.specs.Linking as linking
-use Rattle.jx_model.specs.Linking.{declared_of}
+use Rattle.program_model.specs.Instructions.{instructions_of}
+use Rattle.link_model.specs.Linking as linking
+use Rattle.link_model.specs.Linking.{declared_of}
 use Rattle.linker_members.specs.declared.declarations.Source.{Source}
 
 -- the method of the model that a source stands for

@@ -1,6 +1,6 @@
 //! Copies of what class files declare.
 ghost use Rattle.std.specs.Prelude.{◌≡◌, IfOk};
-ghost use Rattle.jx_model.specs.Linking.{declared_of};
+ghost use Rattle.link_model.specs.Linking.{declared_of};
 
 use jx_base::{Code, Declared, Listed, Member, OutOfMemory, Selector, Text};
 use std::alloc::Global;
@@ -36,7 +36,7 @@ pub fn copy_of_declared(alloc: Global, method: &Declared) -> Result<Declared, Ou
 }
 
 /// The method that a member of a class file declares.
-#[tactic(auto, unfolding(jx_model::specs::Linking::declared_of, jx_model::specs::ClassFiles::member_selector))]
+#[tactic(auto, unfolding(link_model::specs::Linking::declared_of, link_model::specs::ClassFiles::member_selector))]
 pub fn declared_of(alloc: Global, member: &Member) -> Result<Declared, OutOfMemory>
     ensures { IfOk result (λ method. method ≡ declared_of member.now) }
 {

@@ -1,6 +1,6 @@
 //! The methods that the classes declare.
 ghost use Rattle.std.specs.Prelude.{◌≡◌, ◌+◌, ◌^◌, ◌<◌, ◌≤◌, ◌++◌, IfOk, length, map};
-ghost use Rattle.jx_model.specs.Linking.{built_in_sources_from, file_sources_from};
+ghost use Rattle.link_model.specs.Linking.{built_in_sources_from, file_sources_from};
 ghost use Rattle.linker_members.specs.Members.{built_in_source, file_source, source_of};
 
 use crate::copies::{copy_if_some, copy_of_declared, declared_of};

@@ -1,6 +1,6 @@
 //! The methods of a linked program.
 ghost use Rattle.std.specs.Prelude.{◌≡◌, ◌^◌, ◌<◌, IfOk, IsTrue, length, map};
-ghost use Rattle.jx_model.specs.Linking.{linked_method};
+ghost use Rattle.link_model.specs.Linking.{linked_method};
 ghost use Rattle.linker_members.specs.Members.{HaveKnownCode, instrs_of, is_known_code, source_of};
 
 use crate::copies::copy_if_some;
@@ -20,7 +20,7 @@ fn instrs_of(alloc: Global, code: &Option<Code>) -> Result<Listed<Instr>, OutOfM
     }
 }
 
-#[tactic(auto, unfolding(jx_model::specs::Linking::linked_method))]
+#[tactic(auto, unfolding(link_model::specs::Linking::linked_method))]
 fn linked_method(
     alloc: Global,
     selectors: &[Selector],

@@ -1,9 +1,9 @@
 //! The selectors of a linked program.
 ghost use Rattle.std.specs.Prelude.{◌≡◌, ◌^◌, ◌<◌, IfOk, IfSome, length, map, position};
 ghost use Rattle.std.specs.List.{list_any};
-ghost use Rattle.jx_model.specs.Linking.{linked_selectors};
-ghost use Rattle.jx_model.specs.Lookup.{same_selector};
-ghost use Rattle.jx_model.specs.Words.{or_zero};
+ghost use Rattle.link_model.specs.Linking.{linked_selectors};
+ghost use Rattle.program_model.specs.Lookup.{same_selector};
+ghost use Rattle.jx_base.specs.Basics.{or_zero};
 ghost use Rattle.linker_members.specs.Members.{source_of};
 
 use crate::copies::copy_of_selector;
@@ -11,7 +11,7 @@ use crate::declarations::Source;
 use jx_base::{MethodId, OutOfMemory, Selector};
 use std::alloc::Global;
 
-#[tactic(auto, unfolding(jx_model::specs::Lookup::same_selector))]
+#[tactic(auto, unfolding(program_model::specs::Lookup::same_selector))]
 fn is_same_selector(left: &Selector, right: &Selector) -> bool
     ensures { result ≡ same_selector left.now right.now }
 {
@@ -51,7 +51,7 @@ fn place_of(selectors: &[Selector], selector: &Selector) -> Option<usize>
 }
 
 /// The place of the selector among the selectors.
-#[tactic(auto, unfolding(jx_model::specs::Words::or_zero))]
+#[tactic(auto, unfolding(jx_base::specs::Basics::or_zero))]
 pub fn number_of(selectors: &[Selector], selector: &Selector) -> MethodId
     requires { length selectors.now < 2 ^ 32 }
     ensures { result.0 ≡ or_zero (position (same_selector selector.now) selectors.now) }

@@ -1,7 +1,7 @@
 //! The instructions of a method's code.
 ghost use Rattle.std.specs.Prelude.{◌≡◌, [], ◌∷◌, pos, IfOk};
 ghost use Rattle.first_class.specs.FirstClass.{first_code};
-ghost use Rattle.jx_model.specs.Instructions.{instructions_of};
+ghost use Rattle.program_model.specs.Instructions.{instructions_of};
 ghost use Rattle.linker_members.specs.Members.{plain_instr};
 
 use jx_base::{Instr, Listed, OutOfMemory};

@@ -7,7 +7,7 @@ use Rattle.jx_base.specs.declared.act.History.{History}
 use Rattle.jx_base.specs.declared.program.System.{System}
 use Rattle.audit_text.specs.Rendering.{HasBuiltActs}
 use Rattle.jx_model.specs.Legal.{IsAdmitted}
-use Rattle.jx_model.specs.Opened.{opened_model}
+use Rattle.opened_models.specs.Opened.{opened_model}
 use Rattle.rows_audits.specs.HandMade.{small_template, small_system, plain_entry, odd_text, hand_made}
 
 abbrev made : History

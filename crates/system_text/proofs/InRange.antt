@@ -10,8 +10,8 @@ use Rattle.std.proofs.lemmas.List.Folds.{list_all-append}
 use Rattle.std.proofs.lemmas.List.Sums.{AllPass-from_list_all}
 use Rattle.jx_base.specs.ClassNames.{is_class_name}
 use Rattle.jx_base.specs.declared.program.Plan.{Plan}
-use Rattle.jx_model.specs.Words.{firsts}
-use Rattle.jx_model.specs.Plans.{first_texts, has_name_length, is_template_name, IsTemplateInRange, IsPlanInRange}
+use Rattle.jx_base.specs.Basics.{firsts}
+use Rattle.program_model.specs.Plans.{first_texts, has_name_length, is_template_name, IsTemplateInRange, IsPlanInRange}
 use Rattle.toml.specs.Data.{Data, string, integer, float, boolean, datetime, array, table, Members, as_table, get_member}
 use Rattle.system_text.specs.declared.fault.PlanFault.TheVariants as fault
 use Rattle.system_text.specs.Keys.{array_items, distinct, first_repeated, has_text, is_domain_name, items_in, optional_fault}

@@ -9,8 +9,8 @@ use Rattle.std.proofs.lemmas.Slice.Eq.{bytes_eq-Decides}
 use Rattle.std.proofs.lemmas.List.{length_push}
 use Rattle.std.proofs.lemmas.List.Elements.{All-nil, All-cons}
 use Rattle.std.proofs.lemmas.List.Folds.{list_any-append, list_all-append}
-use Rattle.jx_model.specs.Words.{contains_number, firsts_after}
-use Rattle.jx_model.specs.Plans.{first_texts_after}
+use Rattle.jx_base.specs.Basics.{contains_number, firsts_after}
+use Rattle.program_model.specs.Plans.{first_texts_after}
 use Rattle.system_text.specs.Keys.{has_text, distinct_after, repeated_after}
 use Rattle.system_text.specs.Description.{place_in}
 use Rattle.system_text.specs.Scan.{with_new, with_all_new}

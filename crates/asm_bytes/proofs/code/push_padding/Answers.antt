@@ -1,6 +1,6 @@
 use Rattle.std.proofs.Common.{◌∙◌, ◌%◌, ap, ◌++◌, List, ℕ, arith}
 use Rattle.std.proofs.lemmas.Result.{on_ok_weaker}
-use Rattle.jx_base.specs.CodeGrammar.{padding_length}
+use Rattle.class_grammar.specs.CodeGrammar.{padding_length}
 use Rattle.asm_bytes.proofs.Appended.{appended, zeros}
 use Rattle.asm_bytes.proofs.code.push_padding.Goals as goal
 

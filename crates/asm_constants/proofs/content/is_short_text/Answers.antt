@@ -1,6 +1,6 @@
 use Rattle.std.proofs.Common.{◌≡◌, ◌∙◌, sym, length, nat_le, false, arith}
 use Rattle.std.proofs.lemmas.Bool.{lt-leb}
-use Rattle.jx_base.specs.ModifiedUtf8.{modified_utf8}
+use Rattle.class_grammar.specs.ModifiedUtf8.{modified_utf8}
 use Rattle.asm_constants.proofs.Texts.{text_length}
 use Rattle.asm_constants.proofs.content.is_short_text.Goals as goal
 

@@ -1,6 +1,6 @@
 use Rattle.std.proofs.Common.{◌≡◌, ℕ, ◌<◌, false}
 use Rattle.std.specs.Str.{bytes_eq}
-use Rattle.jx_base.specs.Opcodes.{opcode_at}
+use Rattle.class_grammar.specs.Opcodes.{opcode_at}
 use Rattle.asm_lines.proofs.instructions.opcode_named.Given as goal
 
 abbrev pub invariant-loop-number : goal.invariant-loop-number

@@ -1,5 +1,5 @@
 use Rattle.std.proofs.lemmas.Result.{err_from_is_err_and}
-use Rattle.jx_model.specs.Histories.{past_of}
+use Rattle.jx_base.specs.Histories.{past_of}
 use Rattle.audit_text.specs.Pieces.{piece_text}
 use Rattle.audit_text.proofs.Built.{entries_built}
 use Rattle.audit_text.proofs.Writing.{writes_then, writes_stop}

@@ -1,4 +1,4 @@
-use Rattle.jx_model.specs.AuditText.{console_line}
+use Rattle.audit_model.specs.AuditText.{console_line}
 use Rattle.audit_text.specs.Writes.{output}
 use Rattle.audit_text.proofs.Writing.{WritesRest}
 use Rattle.audit_text.proofs.console.write_console.Given as goal

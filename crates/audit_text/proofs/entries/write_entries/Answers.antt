@@ -1,7 +1,7 @@
 use Rattle.std.proofs.Common.{◌+◌, arith, ap}
 use Rattle.std.proofs.lemmas.List.{drop_all}
 use Rattle.std.proofs.lemmas.Result.{err_from_is_err_and}
-use Rattle.jx_model.specs.AuditText.{entry_lines}
+use Rattle.audit_model.specs.AuditText.{entry_lines}
 use Rattle.audit_text.proofs.Writing.{completes_more, completes_stop, completes_end}
 use Rattle.audit_text.proofs.Lines.{entry_lines-more, entry_built}
 use Rattle.audit_text.proofs.entries.write_entries.Goals as goal

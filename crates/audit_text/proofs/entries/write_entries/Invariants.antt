@@ -1,5 +1,5 @@
 use Rattle.std.proofs.Common.{◌≡◌, ◌+◌, drop}
-use Rattle.jx_model.specs.AuditText.{entry_lines}
+use Rattle.audit_model.specs.AuditText.{entry_lines}
 use Rattle.audit_text.specs.Writes.{output}
 use Rattle.audit_text.proofs.Writing.{Completes}
 use Rattle.audit_text.proofs.entries.write_entries.Given as goal

@@ -1,5 +1,5 @@
 use Rattle.std.proofs.Common.{sym, ◌∙◌, refl}
-use Rattle.jx_model.specs.AuditText.{end_word_of}
+use Rattle.audit_model.specs.AuditText.{end_word_of}
 use Rattle.audit_text.proofs.LastEntry.{end_word-none, end_word-last, end_word-open, front_built}
 use Rattle.audit_text.proofs.totals.end_word.Goals as goal
 

@@ -1,6 +1,6 @@
 use Rattle.std.proofs.Common.{reverse, arith}
 use Rattle.std.proofs.lemmas.List.{drop_all}
-use Rattle.jx_model.specs.Histories.{entry_words}
+use Rattle.jx_model.specs.Journal.{entry_words}
 use Rattle.audit_text.proofs.Sums.{entry_sum-more, entry_sum-end, entry_sum-reverse}
 use Rattle.audit_text.proofs.JournalWords.{words-sum}
 use Rattle.audit_text.proofs.Lines.{entry_built}

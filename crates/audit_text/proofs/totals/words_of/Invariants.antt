@@ -1,5 +1,5 @@
 use Rattle.std.proofs.Common.{◌≡◌, ◌+◌, drop}
-use Rattle.jx_model.specs.Histories.{entry_words}
+use Rattle.jx_model.specs.Journal.{entry_words}
 use Rattle.audit_text.proofs.Sums.{entry_sum}
 use Rattle.audit_text.proofs.totals.words_of.Given as goal
 

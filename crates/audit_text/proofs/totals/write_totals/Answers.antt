@@ -1,8 +1,8 @@
 use Rattle.std.proofs.Common.{reverse, refl, arith}
 use Rattle.std.proofs.lemmas.Result.{err_from_is_err_and}
-use Rattle.jx_model.specs.AuditText.{before_last, end_word}
-use Rattle.jx_model.specs.Histories.{words_of}
-use Rattle.jx_model.specs.Limits.{journal_limit}
+use Rattle.audit_model.specs.AuditText.{before_last, end_word}
+use Rattle.jx_model.specs.Journal.{words_of}
+use Rattle.program_model.specs.Limits.{journal_limit}
 use Rattle.audit_text.specs.Pieces.{piece_text}
 use Rattle.audit_text.specs.Rendering.{IsBuiltEntry}
 use Rattle.audit_text.proofs.Writing.{writes_then, writes_stop}

@@ -1,5 +1,5 @@
 use Rattle.std.proofs.Common.{◌∙◌, refl}
-use Rattle.jx_model.specs.BuiltIn.{plain_classes, object_class, builder_class}
+use Rattle.program_model.specs.BuiltIn.{plain_classes, object_class, builder_class}
 use Rattle.boot_classes.proofs.classes.plain_classes.Goals as goal
 
 pub returns : goal.returns

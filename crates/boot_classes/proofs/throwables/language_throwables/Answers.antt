@@ -1,5 +1,5 @@
 use Rattle.std.proofs.Common.{◌∙◌, refl}
-use Rattle.jx_model.specs.BuiltIn.{language_throwables, throwable_class, exception_class, runtime_exception, index_exception, error_class, machine_error}
+use Rattle.program_model.specs.BuiltIn.{language_throwables, throwable_class, exception_class, runtime_exception, index_exception, error_class, machine_error}
 use Rattle.boot_classes.specs.Rows.{throwable_of}
 use Rattle.boot_classes.proofs.throwables.language_throwables.Goals as goal
 

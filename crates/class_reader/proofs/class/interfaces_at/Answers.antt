@@ -1,7 +1,7 @@
 use Rattle.std.proofs.Common.{[], ◌∷◌, arith}
 use Rattle.std.proofs.lemmas.Result.{err_from_is_err_and}
-use Rattle.jx_base.specs.ClassGrammar.{interface_part}
-use Rattle.jx_base.proofs.Repeats.{goes_on, is_done}
+use Rattle.class_grammar.specs.ClassGrammar.{interface_part}
+use Rattle.class_grammar.proofs.Repeats.{goes_on, is_done}
 use Rattle.class_reader.proofs.Fronts.{all_fail}
 use Rattle.class_reader.proofs.Interfaces.{interface_read, interface_fails}
 use Rattle.class_reader.proofs.class.interfaces_at.Goals as goal

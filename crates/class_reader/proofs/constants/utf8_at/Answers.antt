@@ -1,5 +1,5 @@
 use Rattle.std.proofs.Common.{length, ap, arith}
-use Rattle.jx_base.specs.Constants.{constant_length}
+use Rattle.class_grammar.specs.Constants.{constant_length}
 use Rattle.class_reader.proofs.constants.utf8_at.Goals as goal
 
 pub returns-in-Some-clause-long : goal.returns-in-Some-clause-long

@@ -1,6 +1,6 @@
 use Rattle.std.proofs.Common.{◌≡◌, ◌-◌, ◌≤◌, length}
 use Rattle.std.specs.Prelude.{None}
-use Rattle.jx_base.specs.Members.{method_attributes}
+use Rattle.class_grammar.specs.Members.{method_attributes}
 use Rattle.class_reader.proofs.members.attributes_at.Given as goal
 
 abbrev pub invariant-loop : goal.invariant-loop

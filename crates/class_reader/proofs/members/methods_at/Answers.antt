@@ -1,6 +1,6 @@
 use Rattle.std.proofs.Common.{[], ◌∷◌, arith}
-use Rattle.jx_base.specs.Members.{method_part}
-use Rattle.jx_base.proofs.Repeats.{goes_on, is_done}
+use Rattle.class_grammar.specs.Members.{method_part}
+use Rattle.class_grammar.proofs.Repeats.{goes_on, is_done}
 use Rattle.class_reader.proofs.members.methods_at.Goals as goal
 
 pub loop-preserved : goal.loop-preserved

@@ -1,6 +1,6 @@
 use Rattle.std.proofs.Common.{[], arith}
-use Rattle.jx_base.specs.Members.{skipped_attribute}
-use Rattle.jx_base.proofs.Repeats.{goes_on}
+use Rattle.class_grammar.specs.Members.{skipped_attribute}
+use Rattle.class_grammar.proofs.Repeats.{goes_on}
 use Rattle.class_reader.proofs.names.skip_so_many.Goals as goal
 
 pub loop-preserved : goal.loop-preserved

@@ -1,5 +1,5 @@
 use Rattle.std.proofs.Common.{◌≡◌, ◌+◌, drop}
-use Rattle.jx_base.specs.Constants.{misnaming_fault}
+use Rattle.class_grammar.specs.Constants.{misnaming_fault}
 use Rattle.class_reader.specs.Pools.{constants_length}
 use Rattle.class_reader.proofs.pool.misnaming.Given as goal
 

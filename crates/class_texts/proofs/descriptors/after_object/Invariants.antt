@@ -1,5 +1,5 @@
 use Rattle.std.proofs.Common.{◌≡◌, [], take, drop}
-use Rattle.jx_base.specs.Descriptors.{object_at}
+use Rattle.class_grammar.specs.Descriptors.{object_at}
 use Rattle.class_texts.proofs.descriptors.after_object.Given as goal
 
 abbrev pub invariant-loop-i : goal.invariant-loop-i

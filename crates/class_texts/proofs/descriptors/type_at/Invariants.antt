@@ -1,5 +1,5 @@
 use Rattle.std.proofs.Common.{◌≡◌, drop}
-use Rattle.jx_base.specs.Descriptors.{type_at}
+use Rattle.class_grammar.specs.Descriptors.{type_at}
 use Rattle.class_texts.proofs.descriptors.type_at.Given as goal
 
 abbrev pub invariant-loop-i : goal.invariant-loop-i

@@ -1,5 +1,5 @@
 use Rattle.std.proofs.Common.{◌≡◌, ◌-◌, length, arith}
-use Rattle.jx_base.specs.Descriptors.{types_at}
+use Rattle.class_grammar.specs.Descriptors.{types_at}
 use Rattle.class_texts.proofs.Shapes.{types_next, types_fail, types_close, types_end, with_no}
 use Rattle.class_texts.proofs.descriptors.types_at.Goals as goal
 

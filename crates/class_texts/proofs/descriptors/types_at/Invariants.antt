@@ -1,5 +1,5 @@
 use Rattle.std.proofs.Common.{◌≡◌, ◌-◌, ◌<◌, ◌^◌, length}
-use Rattle.jx_base.specs.Descriptors.{types_at}
+use Rattle.class_grammar.specs.Descriptors.{types_at}
 use Rattle.class_texts.specs.Shapes.{of_types}
 use Rattle.class_texts.proofs.Shapes.{with_tally}
 use Rattle.class_texts.proofs.descriptors.types_at.Given as goal

@@ -1,6 +1,6 @@
 use Rattle.std.proofs.Common.{◌≡◌, ◌++◌, length}
 use Rattle.std.specs.Prelude.{option_map}
-use Rattle.jx_base.specs.ModifiedUtf8.{text_of_bytes}
+use Rattle.class_grammar.specs.ModifiedUtf8.{text_of_bytes}
 use Rattle.class_texts.proofs.utf8.text_in.Given as goal
 
 abbrev pub invariant-loop-rest : goal.invariant-loop-rest

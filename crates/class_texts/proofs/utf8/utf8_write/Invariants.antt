@@ -1,5 +1,5 @@
 use Rattle.std.proofs.Common.{◌≡◌, ◌++◌, drop}
-use Rattle.jx_base.specs.ModifiedUtf8.{modified_utf8}
+use Rattle.class_grammar.specs.ModifiedUtf8.{modified_utf8}
 use Rattle.class_texts.proofs.utf8.utf8_write.Given as goal
 
 abbrev pub invariant-loop-unit : goal.invariant-loop-unit

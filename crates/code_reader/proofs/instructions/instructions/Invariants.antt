@@ -1,5 +1,5 @@
 use Rattle.std.proofs.Common.{length}
-use Rattle.jx_base.specs.CodeGrammar.{instructions_reading}
+use Rattle.class_grammar.specs.CodeGrammar.{instructions_reading}
 use Rattle.code_reader.proofs.CodeSteps.{IsLeft}
 use Rattle.code_reader.proofs.instructions.instructions.Given as goal
 

@@ -3,7 +3,7 @@ use Rattle.std.specs.Prelude.{IfOk, IfErr}
 use Rattle.jx_base.specs.declared.class_file.Instr.{Instr}
 use Rattle.jx_base.specs.declared.class_file.Range.{Range}
 use Rattle.jx_base.specs.declared.fault.CodeFault.{CodeFault}
-use Rattle.jx_base.specs.CodeGrammar.{IsCode, code_fault}
+use Rattle.class_grammar.specs.CodeGrammar.{IsCode, code_fault}
 use Rattle.code_reader.specs.declared.error.CodeError.{CodeError}
 use Rattle.code_reader.specs.declared.error.CodeError.TheVariants as error
 use Rattle.code_reader.specs.CodeReading.{code_reading, TellsFault}

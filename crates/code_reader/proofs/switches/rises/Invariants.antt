@@ -1,5 +1,5 @@
 use Rattle.std.proofs.Common.{◌≡◌, ◌-◌, length, drop}
-use Rattle.jx_base.specs.CodeGrammar.{keys_rise}
+use Rattle.class_grammar.specs.CodeGrammar.{keys_rise}
 use Rattle.code_reader.proofs.switches.rises.Given as goal
 
 abbrev pub invariant-loop-i : goal.invariant-loop-i

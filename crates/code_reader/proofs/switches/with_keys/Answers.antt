@@ -3,8 +3,8 @@ use Rattle.std.specs.Prelude.{FitsSigned}
 use Rattle.std.specs.Int.{w32}
 use Rattle.std.proofs.lemmas.Result.{err_from_is_err_and}
 use Rattle.std.proofs.lemmas.Int.{to_z-of_z}
-use Rattle.jx_base.specs.CodeGrammar.{key_operands}
-use Rattle.jx_base.proofs.Repeats.{goes_on, is_done}
+use Rattle.class_grammar.specs.CodeGrammar.{key_operands}
+use Rattle.class_grammar.proofs.Repeats.{goes_on, is_done}
 use Rattle.code_reader.proofs.Repeats.{fails}
 use Rattle.code_reader.proofs.switches.with_keys.Goals as goal
 

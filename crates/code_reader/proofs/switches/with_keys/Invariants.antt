@@ -1,6 +1,6 @@
 use Rattle.std.proofs.Common.{◌≡◌, ◌-◌, ◌≤◌, length}
-use Rattle.jx_base.specs.Parts.{repeated}
-use Rattle.jx_base.specs.CodeGrammar.{key_operands}
+use Rattle.class_grammar.specs.Parts.{repeated}
+use Rattle.class_grammar.specs.CodeGrammar.{key_operands}
 use Rattle.code_reader.specs.Readings.{with_front}
 use Rattle.code_reader.proofs.switches.with_keys.Given as goal
 

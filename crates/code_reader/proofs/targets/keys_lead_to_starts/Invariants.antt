@@ -1,6 +1,6 @@
 use Rattle.std.proofs.Common.{◌≡◌, length}
 use Rattle.std.specs.List.{list_all}
-use Rattle.jx_base.specs.CodeGrammar.{key_targets}
+use Rattle.class_grammar.specs.CodeGrammar.{key_targets}
 use Rattle.code_reader.specs.CodeReading.{is_marked}
 use Rattle.code_reader.proofs.targets.keys_lead_to_starts.Given as goal
 

@@ -1,6 +1,6 @@
 use Rattle.std.proofs.Common.{◌≡◌, ℕ, length, take, get_or, false}
 use Rattle.std.specs.Prelude.{pos}
-use Rattle.jx_base.specs.CodeGrammar.{starts_at}
+use Rattle.class_grammar.specs.CodeGrammar.{starts_at}
 use Rattle.code_reader.proofs.targets.starts_of.Given as goal
 
 abbrev pub invariant-loop-instr : goal.invariant-loop-instr

@@ -3,7 +3,7 @@ use Rattle.std.specs.Prelude.{map}
 use Rattle.std.proofs.lemmas.List.{get_or_past, get_or_default}
 use Rattle.jx_base.specs.declared.row.Form.{Form}
 use Rattle.jx_base.specs.declared.row.Row.{Row}
-use Rattle.jx_base.specs.Opcodes.{Opcode, opcode, plain_opcode, left_out, unassigned, constants, loads, stores, stack_forms, arithmetic, conversions, comparisons, control, references, extended, opcodes, opcode_at}
+use Rattle.class_grammar.specs.Opcodes.{Opcode, opcode, plain_opcode, left_out, unassigned, constants, loads, stores, stack_forms, arithmetic, conversions, comparisons, control, references, extended, opcodes, opcode_at}
 use Rattle.instruction_table.proofs.opcodes.opcode_of.Goals as goal
 
 abbrev Line : Type 0

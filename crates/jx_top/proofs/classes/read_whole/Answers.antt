@@ -1,4 +1,4 @@
-use Rattle.jx_base.proofs.CodeLengths.{has_short_codes}
+use Rattle.class_grammar.proofs.CodeLengths.{has_short_codes}
 use Rattle.jx_top.proofs.classes.read_whole.Goals as goal
 
 pub read_methods-requires : goal.read_methods-requires

@@ -1,8 +1,8 @@
 use Rattle.std.specs.Prelude.{List, [], ◌∷◌, map}
 use Rattle.std.proofs.Common.{subst, sym, ◌∙◌, ap}
 use Rattle.jx_base.specs.declared.class_file.ClassFile.{ClassFile}
-use Rattle.jx_model.specs.Linking as linking
-use Rattle.jx_model.specs.Linking.{sources, linked_selectors, outline}
+use Rattle.link_model.specs.Linking as linking
+use Rattle.link_model.specs.Linking.{sources, linked_selectors, outline}
 use Rattle.linker_members.specs.Members.{source_of, HaveKnownCode}
 use Rattle.linker_members.specs.declared.declarations.Source.{Source}
 use Rattle.linker_members.proofs.AllSources.{first_sources_are_known}

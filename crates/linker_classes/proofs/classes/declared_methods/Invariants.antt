@@ -1,5 +1,5 @@
 use Rattle.std.proofs.Common.{◌≡◌, map, take}
-use Rattle.jx_model.specs.Linking.{declared_of}
+use Rattle.link_model.specs.Linking.{declared_of}
 use Rattle.linker_classes.proofs.classes.declared_methods.Given as goal
 
 abbrev pub invariant-loop-member : goal.invariant-loop-member

@@ -3,7 +3,7 @@ use Rattle.std.specs.List.{filter_map}
 use Rattle.std.proofs.Common.{◌∙◌, sym, arith, take, get_or, ap}
 use Rattle.std.proofs.lemmas.Grind.{common_steps}
 use Rattle.std.proofs.lemmas.List.Elements.{filter_map-append}
-use Rattle.jx_model.specs.ClassFiles.{class_name_in}
+use Rattle.link_model.specs.ClassFiles.{class_name_in}
 use Rattle.linker_classes.specs.Classes.{class_id}
 use Rattle.linker_classes.proofs.classes.interface_ids.Goals as goal
 use Rattle.linker_classes.proofs.classes.interface_ids.Goals.{in-Some+in_ok-push, in_default}

@@ -1,6 +1,6 @@
 use Rattle.std.proofs.Common.{◌≡◌, take}
 use Rattle.std.specs.List.{filter_map}
-use Rattle.jx_model.specs.ClassFiles.{class_name_in}
+use Rattle.link_model.specs.ClassFiles.{class_name_in}
 use Rattle.linker_classes.specs.Classes.{class_id}
 use Rattle.linker_classes.proofs.classes.interface_ids.Given as goal
 

@@ -10,10 +10,10 @@ use Rattle.jx_base.specs.declared.program.Plan.{Plan}
 use Rattle.jx_base.specs.declared.program.Resolved.{Resolved}
 use Rattle.jx_base.specs.declared.program.Selector.{Selector}
 use Rattle.jx_base.specs.declared.program.System.{System}
-use Rattle.jx_model.specs.BuiltIn.{built_in_table, array_class, opened_built_in}
-use Rattle.jx_model.specs.Linking.{linked_system, outline}
-use Rattle.jx_model.specs.Opened.{opened_model}
-use Rattle.jx_model.proofs.Hello.{hello_plan, hello_file, hello_class, hello_program, hello_system, hello_links}
+use Rattle.program_model.specs.BuiltIn.{built_in_table, array_class, opened_built_in}
+use Rattle.link_model.specs.Linking.{linked_system, outline}
+use Rattle.opened_models.specs.Opened.{opened_model}
+use Rattle.first_class.proofs.Hello.{hello_plan, hello_file, hello_class, hello_program, hello_system, hello_links}
 use Rattle.linker_classes.specs.Classes.{class_of_file, outlined_classes, meanings, last_instrs}
 use Rattle.linker_classes.specs.FirstPlan.{first_plan}
 use Rattle.linker_classes.proofs.classes.linked_classes.Goals as goal

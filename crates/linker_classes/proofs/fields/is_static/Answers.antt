@@ -1,7 +1,7 @@
 use Rattle.std.specs.Prelude.{◌≡◌, refl, ℕ, zero, suc, ◌*◌, ◌<◌, ◌==◌, ◌%◌, ◌/◌, not}
 use Rattle.std.proofs.Common.{arith}
 use Rattle.std.proofs.lemmas.Nat.Bits.{and_pow}
-use Rattle.jx_base.specs.Flags.{is_static, has_flag}
+use Rattle.class_grammar.specs.Flags.{is_static, has_flag}
 use Rattle.linker_classes.proofs.fields.is_static.Goals as goal
 
 is_bit : (bit : ℕ) → bit < 2 → not (bit * 8 == 0) ≡ (bit == 1)

@@ -1,6 +1,6 @@
 use Rattle.std.proofs.Common.{◌≡◌, map, take}
 use Rattle.std.specs.List.{filter}
-use Rattle.jx_model.specs.Linking.{field_of}
+use Rattle.link_model.specs.Linking.{field_of}
 use Rattle.linker_classes.specs.Classes.{is_of_kind}
 use Rattle.linker_classes.proofs.fields.own_fields.Given as goal
 

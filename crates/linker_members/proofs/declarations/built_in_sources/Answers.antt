@@ -1,6 +1,6 @@
 use Rattle.std.proofs.Common.{refl, arith, ◌+◌}
 use Rattle.std.proofs.lemmas.List.{drop_all}
-use Rattle.jx_model.specs.Linking.{built_in_sources_from}
+use Rattle.link_model.specs.Linking.{built_in_sources_from}
 use Rattle.linker_members.proofs.SourcesByClass.{one_more, no_more, of_class, built_in_end, built_in_step}
 use Rattle.linker_members.proofs.declarations.built_in_sources.Goals as goal
 

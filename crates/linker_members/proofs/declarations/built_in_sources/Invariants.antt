@@ -1,5 +1,5 @@
 use Rattle.std.proofs.Common.{◌≡◌, ◌++◌, map, drop}
-use Rattle.jx_model.specs.Linking.{built_in_sources_from}
+use Rattle.link_model.specs.Linking.{built_in_sources_from}
 use Rattle.linker_members.specs.Members.{source_of}
 use Rattle.linker_members.proofs.declarations.built_in_sources.Given as goal
 

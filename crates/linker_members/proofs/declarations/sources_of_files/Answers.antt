@@ -1,6 +1,6 @@
 use Rattle.std.proofs.Common.{arith, ◌+◌}
 use Rattle.std.proofs.lemmas.List.{drop_all}
-use Rattle.jx_model.specs.Linking.{file_sources_from}
+use Rattle.link_model.specs.Linking.{file_sources_from}
 use Rattle.linker_members.proofs.SourcesByClass.{one_more, no_more, of_file, files_end, files_step}
 use Rattle.linker_members.proofs.declarations.sources_of_files.Goals as goal
 

@@ -1,5 +1,5 @@
 use Rattle.std.proofs.Common.{◌≡◌, map, take}
-use Rattle.jx_model.specs.Linking.{linked_method}
+use Rattle.link_model.specs.Linking.{linked_method}
 use Rattle.linker_members.specs.Members.{source_of}
 use Rattle.linker_members.proofs.linking.methods.Given as goal
 

@@ -1,6 +1,6 @@
 use Rattle.std.proofs.Common.{◌∙◌, sym, ap, arith, map, ◌∷◌, [], ◌++◌}
 use Rattle.std.proofs.lemmas.List.{drop_all}
-use Rattle.jx_model.specs.Linking.{linked_selectors}
+use Rattle.link_model.specs.Linking.{linked_selectors}
 use Rattle.linker_members.specs.Members.{source_of}
 use Rattle.linker_members.proofs.KnownSelectors.{found_at_start, found_at_end, one_known, one_new}
 use Rattle.linker_members.proofs.naming.selectors.Goals as goal

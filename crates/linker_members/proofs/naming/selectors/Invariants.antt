@@ -1,5 +1,5 @@
 use Rattle.std.proofs.Common.{◌≡◌, map, drop}
-use Rattle.jx_model.specs.Linking.{linked_selectors}
+use Rattle.link_model.specs.Linking.{linked_selectors}
 use Rattle.linker_members.specs.Members.{source_of}
 use Rattle.linker_members.proofs.KnownSelectors.{found_with}
 use Rattle.linker_members.proofs.naming.selectors.Given as goal

@@ -1,0 +1,9 @@
+pub mod Parts
+pub mod Flags
+pub mod Opcodes
+pub mod ModifiedUtf8
+pub mod Descriptors
+pub mod Constants
+pub mod Members
+pub mod ClassGrammar
+pub mod CodeGrammar

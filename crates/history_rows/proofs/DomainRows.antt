@@ -1,0 +1,93 @@
+-- The rows of the domains after an entry more.
+use Rattle.std.proofs.Common.{◌≡◌, ◌≢◌, refl, sym, ◌∙◌, ap, ℕ, ◌+◌, ◌≤◌, Bool, true, false, cond, List, [], ◌∷◌, ◌++◌, map, Option, Some, None, arith, ◌==◌, if◌then◌else◌, set, slice_get}
+use Rattle.jx_base.specs.declared.act.Reason.{Reason}
+use Rattle.jx_base.specs.declared.act.Entry.{Entry}
+use Rattle.jx_base.specs.declared.states.DomainState.{DomainState}
+use Rattle.jx_base.specs.declared.program.System.{System}
+use Rattle.jx_base.specs.Basics.{up_to, or_zero, mapped, and_then}
+use Rattle.jx_base.specs.Histories.{Past, nth_entry}
+use Rattle.jx_model.specs.Domains.{is_birth, domains_made, birth_of, template_of, creator_of, heap_place_of, named_template, reply_granule, end_reason, ended_by, reason_for}
+use Rattle.jx_model.specs.Tables.{domain_row, domain_rows}
+use Rattle.jx_model.specs.Legal.{IsAdmittedPast}
+use Rattle.jx_base.proofs.BasicLaws.{ap2}
+use Rattle.jx_base.proofs.NthEntries.{nth_new, nth_old, count_new, count_same}
+use Rattle.history_rows.proofs.Rows.{rows_same, rows_more, rows_set, rows_get, not_that, is_that}
+use Rattle.history_rows.proofs.Actors.{unmade_unended}
+
+-- a domain's row by the entry that made it and why it ended
+abbrev pub domain_by : System → Option Entry → Option Reason → DomainState
+domain_by s b r =
+    record {
+      template = or_zero (and_then b (λ e. named_template s e.act));
+      creator = record { 0 = or_zero (mapped (λ e. e.domain.0) b) };
+      at = or_zero (mapped (λ e. reply_granule e.reply) b);
+      ended = r;
+    }
+
+-- the row of the domain that an entry makes
+abbrev pub born : System → Entry → DomainState
+born s e = record { template = or_zero (named_template s e.act); creator = e.domain; at = reply_granule e.reply; ended = None }
+
+-- the reason of an entry, or else the one before it
+abbrev pub reason_after : Option (ℕ × Reason) → ℕ → Option Reason → Option Reason
+reason_after x d before = elim (reason_for x d) as (λ _. Option Reason) [ Some r ↦ Some r | None ↦ before ]
+
+module _ (s : System) (past : Past) (e : Entry) where
+  -- the row of a domain that was made before the entry
+  pub domain_row_old : (d : ℕ) → d ≤ domains_made past → domain_row s (e ∷ past) d ≡ record (domain_row s past d) { ended = reason_after (ended_by e) d (end_reason past d) }
+  unfolding domain_row template_of creator_of heap_place_of birth_of end_reason
+  domain_row_old d u =
+      ap (λ (b : Option Entry). domain_by s b (reason_after (ended_by e) d (end_reason past d))) (nth_old is_birth e past d (λ q. omega (arith, q, u)))
+
+  -- an entry that neither makes nor ends a domain leaves the rows
+  pub domains_same : is_birth e ≡ false → ended_by e ≡ None → domain_rows s (e ∷ past) ≡ domain_rows s past
+  unfolding domain_rows domain_row reason_for
+  domains_same b n =
+      ap (λ (k : ℕ). map (domain_row s (e ∷ past)) (up_to k)) (count_same is_birth e past b)
+      ∙ rows_same (domain_row s (e ∷ past)) (domain_row s past) (domains_made past) (λ d l u.
+      domain_row_old d u ∙ ap (λ (x : Option (ℕ × Reason)). let row : DomainState = record (domain_row s past d) { ended = reason_after x d (end_reason past d) } in row) n)
+
+  -- one that makes a domain adds its row
+  pub domains_after_birth : IsAdmittedPast s past → is_birth e ≡ true → ended_by e ≡ None → domain_rows s (e ∷ past) ≡ domain_rows s past ++ born s e ∷ []
+  unfolding domain_rows domain_row reason_for template_of creator_of heap_place_of birth_of end_reason and_then or_zero mapped
+  domains_after_birth a b n =
+      ap (λ (k : ℕ). map (domain_row s (e ∷ past)) (up_to k)) (count_new is_birth e past b)
+      ∙ rows_more (domain_row s (e ∷ past)) (domains_made past)
+      ∙ ap2 (λ (xs : List DomainState) (x : DomainState). xs ++ x ∷ []) olds new
+    where
+      olds : map (domain_row s (e ∷ past)) (up_to (domains_made past)) ≡ map (domain_row s past) (up_to (domains_made past))
+      olds =
+          rows_same (domain_row s (e ∷ past)) (domain_row s past) (domains_made past) (λ d l u.
+          domain_row_old d u ∙ ap (λ (x : Option (ℕ × Reason)). let row : DomainState = record (domain_row s past d) { ended = reason_after x d (end_reason past d) } in row) n)
+
+      new : domain_by s (nth_entry is_birth (e ∷ past) (domains_made past + 1)) (reason_after (ended_by e) (domains_made past + 1) (end_reason past (domains_made past + 1))) ≡ born s e
+      new =
+          ap2 (domain_by s)
+          (nth_new is_birth e past (domains_made past + 1) b refl)
+          (ap2 (λ (x : Option (ℕ × Reason)) (r : Option Reason). reason_after x (domains_made past + 1) r) n (unmade_unended s past (domains_made past + 1) a (omega arith)))
+
+  -- one that ends a live domain sets its row
+  pub domains_after_end : (k i : ℕ) (why : Reason) → is_birth e ≡ false → ended_by e ≡ Some (k, why) → k ≡ i + 1 → k ≤ domains_made past →
+      domain_rows s (e ∷ past) ≡ set (domain_rows s past) i (record (domain_row s past k) { ended = Some why })
+  unfolding domain_rows domain_row reason_for
+  domains_after_end k i why b n q u =
+      ap (λ (m : ℕ). map (domain_row s (e ∷ past)) (up_to m)) (count_same is_birth e past b)
+      ∙ rows_set (domain_row s past) (domain_row s (e ∷ past)) (domains_made past) k i q u (λ d l v z.
+      sym (domain_row_old d v ∙ ended d (cond false (Some why) (end_reason past d)) ((ap (λ (x : Option (ℕ × Reason)). reason_after x d (end_reason past d)) n) ∙ other d z)))
+      ∙ ap (set (map (domain_row s past) (up_to (domains_made past))) i)
+      (domain_row_old k u ∙ ended k (Some why) (ap (λ (x : Option (ℕ × Reason)). reason_after x k (end_reason past k)) n ∙ its))
+    where
+      ended : (d : ℕ) (r : Option Reason) → reason_after (ended_by e) d (end_reason past d) ≡ r →
+          (let row : DomainState = record (domain_row s past d) { ended = reason_after (ended_by e) d (end_reason past d) } in row) ≡ record (domain_row s past d) { ended = r }
+      ended d r h = ap (λ (x : Option Reason). let row : DomainState = record (domain_row s past d) { ended = x } in row) h
+
+      other : (d : ℕ) → d ≢ k → (elim (if k == d then Some why else None) as (λ _. Option Reason) [ Some r ↦ Some r | None ↦ end_reason past d ]) ≡ end_reason past d
+      other d z = ap (λ (b : Bool). elim (if b then Some why else None) as (λ _. Option Reason) [ Some r ↦ Some r | None ↦ end_reason past d ]) (not_that k d z)
+
+      its : (elim (if k == k then Some why else None) as (λ _. Option Reason) [ Some r ↦ Some r | None ↦ end_reason past k ]) ≡ Some why
+      its = ap (λ (b : Bool). elim (if b then Some why else None) as (λ _. Option Reason) [ Some r ↦ Some r | None ↦ end_reason past k ]) (is_that k k refl)
+
+-- a row of a domain that was made
+pub domain_row_there : (s : System) (past : Past) (d i : ℕ) → d ≡ i + 1 → d ≤ domains_made past → slice_get (domain_rows s past) i ≡ Some (domain_row s past d)
+unfolding domain_rows
+domain_row_there s past d i q u = rows_get (domain_row s past) (domains_made past) d i q u

@@ -1,0 +1,42 @@
+-- The names as a list of all binds, the newest first: a bind adds one, and nothing else changes it.
+use Rattle.std.proofs.Common.{◌≡◌, refl, sym, ◌∙◌, ap, ℕ, Bool, true, false, List, ◌∷◌, Option, Some, None, if◌then◌else◌}
+use Rattle.std.specs.Str.{bytes_eq}
+use Rattle.jx_base.specs.declared.act.Entry.{Entry}
+use Rattle.jx_base.specs.declared.program.System.{System}
+use Rattle.jx_base.specs.Basics.{and_then, passes}
+use Rattle.jx_base.specs.Histories.{Past}
+use Rattle.jx_model.specs.Portals.{bound_by_act, last_bound, bound_service, has_live_owner}
+use Rattle.jx_model.specs.Tables.{named_service, domain_rows, service_rows}
+use Rattle.history_rows.proofs.Permission.{lives_in}
+use Rattle.history_rows.proofs.Acting.{owner_in}
+use Rattle.history_rows.proofs.RowReads.{live_owner_by_rows}
+
+-- the list has the last bind of each name
+abbrev pub HasLastBinds : List (List ℕ × ℕ) → Past → Type 0
+HasLastBinds names past = (name : List ℕ) → named_service names name ≡ last_bound past name
+
+-- a done bind adds itself
+pub binds_after_bind : (names : List (List ℕ × ℕ)) (e : Entry) (past : Past) (name : List ℕ) (k : ℕ) → HasLastBinds names past → ((x : List ℕ) → bound_by_act x e.act e.reply ≡ (if bytes_eq name x then Some k else None)) → HasLastBinds ((name, k) ∷ names) (e ∷ past)
+unfolding named_service last_bound
+binds_after_bind names e past name k h b x =
+    by (bytes_eq name x) ∙ sym (ap (λ (o : Option ℕ). elim o as (λ _. Option ℕ) [ Some j ↦ Some j | None ↦ last_bound past x ]) (b x))
+  where
+    by : (c : Bool) → (if c then Some k else named_service names x) ≡ (elim (if c then Some k else None) as (λ _. Option ℕ) [ Some j ↦ Some j | None ↦ last_bound past x ])
+    by true = refl
+    by false = h x
+
+-- any other entry leaves the list
+pub binds_same : (names : List (List ℕ × ℕ)) (e : Entry) (past : Past) → HasLastBinds names past → ((x : List ℕ) → bound_by_act x e.act e.reply ≡ None) → HasLastBinds names (e ∷ past)
+unfolding last_bound
+binds_same names e past h b x = h x ∙ sym (ap (λ (o : Option ℕ). elim o as (λ _. Option ℕ) [ Some j ↦ Some j | None ↦ last_bound past x ]) (b x))
+
+-- the list and the rows say what a name is bound to
+pub bound_by_binds : (s : System) (names : List (List ℕ × ℕ)) (past : Past) (name : List ℕ) → HasLastBinds names past →
+    bound_service past name ≡ and_then (named_service names name) (λ k. if passes (lives_in (domain_rows s past)) (owner_in (service_rows past) k) then Some k else None)
+unfolding bound_service and_then
+bound_by_binds s names past name h =
+    by (last_bound past name) ∙ ap (λ (o : Option ℕ). and_then o (λ k. if passes (lives_in (domain_rows s past)) (owner_in (service_rows past) k) then Some k else None)) (sym (h name))
+  where
+    by : (o : Option ℕ) → and_then o (λ k. if has_live_owner past k then Some k else None) ≡ and_then o (λ k. if passes (lives_in (domain_rows s past)) (owner_in (service_rows past) k) then Some k else None)
+    by None = refl
+    by (Some k) = ap (λ (b : Bool). if b then Some k else None) (live_owner_by_rows s past k)

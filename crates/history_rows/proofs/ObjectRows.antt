@@ -1,0 +1,175 @@
+-- The rows of the memory objects after an entry more.
+use Rattle.std.proofs.Common.{◌≡◌, ◌≢◌, refl, sym, ◌∙◌, ap, ℕ, suc, zero, ◌+◌, ◌<◌, ◌≤◌, Bool, true, false, not, cond, ◌&&◌, ◌||◌, List, [], ◌∷◌, ◌++◌, length, map, replicate, Option, Some, None, arith, ◌==◌, if◌then◌else◌, ◌⊎◌, inl, inr, filter, length-append, append-nil}
+use Rattle.std.specs.List.{range_with_len}
+use Rattle.std.proofs.lemmas.List.{map-append}
+use Rattle.jx_base.specs.declared.act.Act.{Act}
+use Rattle.jx_base.specs.declared.act.Act.TheVariants as act
+use Rattle.jx_base.specs.declared.act.Reply.{Reply}
+use Rattle.jx_base.specs.declared.act.Reply.TheVariants as reply
+use Rattle.jx_base.specs.declared.act.Reason.{Reason}
+use Rattle.jx_base.specs.declared.act.Entry.{Entry}
+use Rattle.jx_base.specs.declared.program.System.{System}
+use Rattle.jx_base.specs.Basics.{up_to, contains_number}
+use Rattle.jx_base.specs.Histories.{Past, is_done, is_own}
+use Rattle.jx_model.specs.Domains.{is_live, is_birth, domains_made, ended_by}
+use Rattle.jx_model.specs.Calls.{ends_domain}
+use Rattle.jx_model.specs.MemoryObjects.{Part, objects_of, objects_made, new_parts, extents_made, is_valid, ended_object, ends_one_of, lineage_of}
+use Rattle.jx_model.specs.Holding.{received_objects, holds_object, holders}
+use Rattle.jx_model.specs.Growth.{new_object_numbers}
+use Rattle.jx_model.specs.Tables.{ObjectRow, object_row, object_rows, call_rows}
+use Rattle.jx_model.specs.Legal.{IsNext, IsAdmittedPast}
+use Rattle.jx_base.proofs.BasicLaws.{ap2, ap3, up_to_append, eq_of, and_false}
+use Rattle.history_rows.proofs.Rows.{rows_same, filter_range, filter_none, not_that, is_that, same_or_not}
+use Rattle.jx_base.proofs.NthEntries.{count_same}
+use Rattle.history_rows.proofs.Actors.{IsMade, live_made}
+use Rattle.history_rows.proofs.Given.{new_numbers}
+use Rattle.history_rows.proofs.Holders.{holds_step, keeps_none, holders_same, gives_object, drops_object, objects_grow}
+use Rattle.history_rows.proofs.Parts.{valid_new, valid_old, valid_same}
+use Rattle.history_rows.proofs.Riding.{riding_new, riding_same}
+
+-- ---- the rows of old and new objects
+
+-- how many objects an entry makes
+abbrev pub parts_made : Entry → Past → ℕ
+parts_made e past = length (new_parts (objects_of past) (extents_made past + 1) e.act e.reply)
+
+-- the rows of the old objects, and behind them those of the new ones
+pub objects_split : (e : Entry) (past : Past) → object_rows (e ∷ past) ≡ map (object_row (e ∷ past)) (up_to (objects_made past)) ++ map (object_row (e ∷ past)) (range_with_len (objects_made past + 1) (parts_made e past))
+unfolding object_rows objects_made objects_of
+objects_split e past =
+    ap (λ (n : ℕ). map (object_row (e ∷ past)) (up_to n)) (length-append (objects_of past) (new_parts (objects_of past) (extents_made past + 1) e.act e.reply))
+    ∙ ap (map (object_row (e ∷ past))) (up_to_append (objects_made past) (parts_made e past))
+    ∙ map-append (object_row (e ∷ past)) (up_to (objects_made past)) _
+
+-- the row of an object that domain d just made
+abbrev pub new_object_row : ℕ → ObjectRow
+new_object_row d = record { valid = true; holders = d ∷ []; riding = 0 }
+
+-- the one number of a range that is that number
+pub filter_single : (d a n : ℕ) → a ≤ d → d < a + n → filter (λ x. d == x) (range_with_len a n) ≡ d ∷ []
+filter_single d a zero l u = absurd (omega (arith, l, u))
+filter_single d a (suc n) l u = by (same_or_not a d) (filter_single d (a + 1) n)
+  where
+    by : (a ≡ d) ⊎ (a ≢ d) → (a + 1 ≤ d → d < a + 1 + n → filter (λ x. d == x) (range_with_len (a + 1) n) ≡ d ∷ []) → filter (λ x. d == x) (range_with_len a (suc n)) ≡ d ∷ []
+    by (inl q) again =
+        ap2 (λ (b : Bool) (xs : List ℕ). cond b (a ∷ xs) xs) (is_that d a (sym q)) (filter_none (λ x. d == x) (a + 1) n (λ k x y. not_that d k (λ z. omega (arith, z, q, x))))
+        ∙ ap (λ (x : ℕ). x ∷ []) q
+    by (inr z) again = ap (λ (b : Bool). cond b (a ∷ filter (λ x. d == x) (range_with_len (a + 1) n)) (filter (λ x. d == x) (range_with_len (a + 1) n))) (not_that d a z) ∙ again (omega (arith, l, z)) (omega (arith, u))
+
+-- a number of a range is in it
+pub contains_range : (a n m : ℕ) → a ≤ m → m < a + n → contains_number (range_with_len a n) m ≡ true
+unfolding contains_number
+contains_range a zero m l u = absurd (omega (arith, l, u))
+contains_range a (suc n) m l u = by (same_or_not a m) (contains_range (a + 1) n m)
+  where
+    or_true : (b : Bool) → (b || true) ≡ true
+    or_true true = refl
+    or_true false = refl
+
+    by : (a ≡ m) ⊎ (a ≢ m) → (a + 1 ≤ m → m < a + 1 + n → contains_number (range_with_len (a + 1) n) m ≡ true) → ((a == m) || contains_number (range_with_len (a + 1) n) m) ≡ true
+    by (inl q) again = ap (λ (b : Bool). b || contains_number (range_with_len (a + 1) n) m) (is_that a m q)
+    by (inr z) again = ap (λ (b : Bool). (a == m) || b) (again (omega (arith, l, z)) (omega (arith, u))) ∙ or_true (a == m)
+
+-- an entry that makes objects hands them to its domain
+pub makes_gives : (a : Act) (r : Reply) (m : ℕ) → contains_number (new_object_numbers a r) m ≡ true → contains_number (received_objects a r) m ≡ true
+unfolding new_object_numbers received_objects contains_number
+makes_gives (act.Alloc n) (reply.Made k g) m h = h
+makes_gives (act.Sub k at n) (reply.Object x) m h = h
+makes_gives (act.Split k at) (reply.Pair x y) m h = h
+makes_gives (act.Revoke k) (reply.Object x) m h = h
+makes_gives _ _ m h = cc
+
+-- the row of a new object
+pub object_row_new : (s : System) (e : Entry) (past : Past) (m : ℕ) → IsAdmittedPast s (e ∷ past) → is_birth e ≡ false → ended_by e ≡ None → is_live past e.domain.0 ≡ true → objects_made past < m → m ≤ objects_made past + parts_made e past →
+    object_row (e ∷ past) m ≡ new_object_row e.domain.0
+unfolding object_row holders ends_domain is_own up_to objects_made objects_of
+object_row_new s e past m a b z v l u =
+    ap3 (λ (x : Bool) (hs : List ℕ) (n : ℕ). let row : ObjectRow = record { valid = x; holders = hs; riding = n } in row)
+    (valid_new e past m l made)
+    (ap (λ (n : ℕ). filter (λ d. holds_object (e ∷ past) d m) (range_with_len 1 n)) (count_same is_birth e past b)
+    ∙ filter_range (λ d. holds_object (e ∷ past) d m) (λ d. e.domain.0 == d) 1 (domains_made past) (λ d x y. one d x (omega (arith, y)))
+    ∙ filter_single e.domain.0 1 (domains_made past) actor.low (omega (arith, actor.high)))
+    (riding_new s e past m a l)
+  where
+    actor : IsMade past e.domain.0
+    actor = live_made past e.domain.0 v
+
+    made : m ≤ objects_made (e ∷ past)
+    made = omega (arith, u, length-append (objects_of past) (new_parts (objects_of past) (extents_made past + 1) e.act e.reply))
+
+    given : contains_number (received_objects e.act e.reply) m ≡ true
+    given = makes_gives e.act e.reply m (ap (λ (xs : List ℕ). contains_number xs m) (new_numbers s e past a) ∙ contains_range (objects_made past + 1) (parts_made e past) m (omega (arith, l)) (omega (arith, u)))
+
+    turn : (i k r : Bool) → (i ≡ true → k ≡ true) → (k && true && (if i && true then true else if r then false else false)) ≡ i
+    turn true true r h = refl
+    turn true false r h = cc (h refl)
+    turn false true true h = refl
+    turn false true false h = refl
+    turn false false r h = refl
+
+    lives : (d : ℕ) → (e.domain.0 == d) ≡ true → is_live past d ≡ true
+    lives d q = ap (is_live past) (sym (eq_of e.domain.0 d q)) ∙ v
+
+    one : (d : ℕ) → 1 ≤ d → d ≤ domains_made past → holds_object (e ∷ past) d m ≡ (e.domain.0 == d)
+    one d x y =
+        holds_step e past d m (record { low = x; high = y }) made
+        ∙ ap3 (λ (w : Option (ℕ × Reason)) (c k : Bool). is_live past d && not (ends_domain w (Some d)) && (if (e.domain.0 == d) && c then true else if drops_object e d m then false else k)) z given (keeps_none past d m l)
+        ∙ turn (e.domain.0 == d) (is_live past d) (drops_object e d m) (lives d)
+
+-- the rows of all new objects
+pub objects_new : (s : System) (e : Entry) (past : Past) → IsAdmittedPast s (e ∷ past) → is_birth e ≡ false → ended_by e ≡ None → is_live past e.domain.0 ≡ true →
+    map (object_row (e ∷ past)) (range_with_len (objects_made past + 1) (parts_made e past)) ≡ replicate (parts_made e past) (new_object_row e.domain.0)
+objects_new s e past a b z v =
+    all (objects_made past + 1) (parts_made e past) (λ m l u. object_row_new s e past m a b z v (omega (arith, l)) (omega (arith, u)))
+  where
+    all : (x n : ℕ) → ((m : ℕ) → x ≤ m → m < x + n → object_row (e ∷ past) m ≡ new_object_row e.domain.0) → map (object_row (e ∷ past)) (range_with_len x n) ≡ replicate n (new_object_row e.domain.0)
+    all x zero h = refl
+    all x (suc n) h = ap2 (λ (y : ObjectRow) (ys : List ObjectRow). y ∷ ys) (h x (omega arith) (omega arith)) (all (x + 1) n (λ m l u. h m (omega (arith, l)) (omega (arith, u))))
+
+-- an entry that makes objects adds their rows behind those of the old ones, which stay or change each by itself
+pub objects_after : (s : System) (e : Entry) (past : Past) → IsAdmittedPast s (e ∷ past) → is_birth e ≡ false → ended_by e ≡ None → is_live past e.domain.0 ≡ true →
+    object_rows (e ∷ past) ≡ map (object_row (e ∷ past)) (up_to (objects_made past)) ++ replicate (parts_made e past) (new_object_row e.domain.0)
+objects_after s e past a b z v = objects_split e past ∙ ap (λ (xs : List ObjectRow). map (object_row (e ∷ past)) (up_to (objects_made past)) ++ xs) (objects_new s e past a b z v)
+
+-- an entry that makes none
+pub objects_made_none : (e : Entry) (past : Past) → new_parts (objects_of past) (extents_made past + 1) e.act e.reply ≡ [] → object_rows (e ∷ past) ≡ map (object_row (e ∷ past)) (up_to (objects_made past))
+objects_made_none e past h =
+    objects_split e past
+    ∙ ap (λ (ps : List Part). map (object_row (e ∷ past)) (up_to (objects_made past)) ++ map (object_row (e ∷ past)) (range_with_len (objects_made past + 1) (length ps))) h
+    ∙ append-nil _
+
+-- ---- the row of an old object
+
+-- an entry that hands over and drops none, ends no domain and no object, and leaves what calls carry, leaves an object's row
+pub object_row_same : (s : System) (e : Entry) (past : Past) (m : ℕ) → IsNext s past e → m ≤ objects_made past → (is_done e.reply ≡ false) ⊎ (ended_object e.act ≡ None) → ended_by e ≡ None →
+    ((d : ℕ) → gives_object e d m ≡ false) → ((d : ℕ) → drops_object e d m ≡ false) → call_rows (e ∷ past) ≡ call_rows past → object_row (e ∷ past) m ≡ object_row past m
+unfolding object_row
+object_row_same s e past m n l v z g r c =
+    ap3 (λ (x : Bool) (hs : List ℕ) (k : ℕ). let row : ObjectRow = record { valid = x; holders = hs; riding = k } in row)
+    (valid_same e past m l v) (holders_same s e past m n (omega (arith, l, objects_grow e past)) z g r) (riding_same e past m c)
+
+-- an entry that makes no objects and leaves each row leaves all
+pub objects_same : (e : Entry) (past : Past) → new_parts (objects_of past) (extents_made past + 1) e.act e.reply ≡ [] → ((m : ℕ) → 1 ≤ m → m ≤ objects_made past → object_row (e ∷ past) m ≡ object_row past m) → object_rows (e ∷ past) ≡ object_rows past
+unfolding object_rows
+objects_same e past h f = objects_made_none e past h ∙ rows_same (object_row (e ∷ past)) (object_row past) (objects_made past) f
+
+-- ---- the rows of old objects where new ones are made
+
+above_range : (a n m : ℕ) → m < a → contains_number (range_with_len a n) m ≡ false
+unfolding contains_number
+above_range a zero m l = refl
+above_range a (suc n) m l = ap2 (λ (x y : Bool). x || y) (not_that a m (λ z. omega (arith, z, l))) (above_range (a + 1) n m (omega (arith, l)))
+
+-- an entry that hands over only what it makes leaves who holds an old object, and who carries it where the calls' rows stay
+pub object_row_beside : (s : System) (e : Entry) (past : Past) (m : ℕ) → IsAdmittedPast s (e ∷ past) → m ≤ objects_made past → received_objects e.act e.reply ≡ new_object_numbers e.act e.reply → ended_by e ≡ None →
+    ((d : ℕ) → drops_object e d m ≡ false) → call_rows (e ∷ past) ≡ call_rows past → object_row (e ∷ past) m ≡ record (object_row past m) { valid = is_valid past m && not (ends_one_of (lineage_of (objects_of past) m) e) }
+unfolding object_row
+object_row_beside s e past m a l q z r c =
+    ap3 (λ (x : Bool) (hs : List ℕ) (k : ℕ). let row : ObjectRow = record { valid = x; holders = hs; riding = k } in row)
+    (valid_old e past m l) (holders_same s e past m a.0 (omega (arith, l, objects_grow e past)) z none r) (riding_same e past m c)
+  where
+    none : (d : ℕ) → gives_object e d m ≡ false
+    none d =
+        ap (λ (xs : List ℕ). is_own d e && contains_number xs m) (q ∙ new_numbers s e past a)
+        ∙ ap (λ (b : Bool). is_own d e && b) (above_range (objects_made past + 1) (parts_made e past) m (omega (arith, l)))
+        ∙ and_false (is_own d e)

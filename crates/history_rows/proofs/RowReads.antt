@@ -1,0 +1,325 @@
+-- What a reply asks of a past, read off the rows.
+use Rattle.std.proofs.Common.{◌≡◌, refl, sym, ◌∙◌, ap, ℕ, suc, zero, ◌+◌, ◌-◌, ◌<◌, ◌≤◌, Bool, true, false, not, cond, ◌&&◌, ◌||◌, List, [], ◌∷◌, map, Option, Some, None, is_some, arith, ◌==◌, if◌then◌else◌, ◌⊎◌, inl, inr, slice_get, filter}
+use Rattle.std.specs.Prelude.{nat_le, nat_lt}
+use Rattle.std.specs.List.{range_with_len, list_all}
+use Rattle.std.proofs.lemmas.Bool.Decides.{nat_tests}
+use Rattle.jx_base.specs.declared.act.Act.{Act}
+use Rattle.jx_base.specs.declared.act.Act.TheVariants as act
+use Rattle.jx_base.specs.declared.act.Reply.{Reply}
+use Rattle.jx_base.specs.declared.act.Reply.TheVariants as reply
+use Rattle.jx_base.specs.declared.act.Entry.{Entry}
+use Rattle.jx_base.specs.declared.states.DomainState.{DomainState}
+use Rattle.jx_base.specs.declared.program.System.{System}
+use Rattle.jx_base.specs.Basics.{up_to, numbered, mapped, and_then, passes, or_zero, contains_number}
+use Rattle.program_model.specs.Limits.{granule_limit}
+use Rattle.jx_base.specs.Histories.{Past, nth_entry, count_where}
+use Rattle.jx_model.specs.Domains.{is_live, is_birth, makes_domain, domains_made, birth_of, heap_place_of, creator_of, template_of, named_template}
+use Rattle.jx_model.specs.Portals.{services_made, owner_of, interface_of, exported_interface, has_live_owner, holds_portal}
+use Rattle.jx_model.specs.Calls.{calls_made, caller_of, has_live_caller}
+use Rattle.jx_model.specs.MemoryObjects.{objects_of, objects_made, is_valid, ends_one_of, lineage_of}
+use Rattle.jx_model.specs.Holding.{holds_object, holders, is_extent_in_use}
+use Rattle.jx_model.specs.Granules.{Run, heap_run, heap_granules, is_free_run, least_free, first_fit, is_used_granule, used_runs, lies_in_one}
+use Rattle.jx_model.specs.Replies.{reply_to}
+use Rattle.jx_model.specs.Tables.{domain_row, domain_rows, ServiceRow, service_row, service_rows, CallRow, call_row, call_rows, ObjectRow, object_row, object_rows, granule_row, extent_row, extent_bytes}
+use Rattle.jx_model.specs.Legal.{IsAdmittedPast}
+use Rattle.jx_base.proofs.BasicLaws.{ap2, both}
+use Rattle.jx_base.proofs.NthEntries.{nth_passes, nth_there, nth_none}
+use Rattle.jx_model.proofs.Refusals.{valid_none}
+use Rattle.history_rows.proofs.Rows.{get_range, not_that}
+use Rattle.history_rows.proofs.Actors.{live_made}
+use Rattle.history_rows.proofs.Holders.{contains_kept}
+use Rattle.history_rows.proofs.PortalsMade.{held_made}
+use Rattle.history_rows.proofs.Riding.{use_made}
+use Rattle.history_rows.proofs.Uses.{Use, ByDomain, ByCall, use_before}
+use Rattle.history_rows.proofs.InUse.{holder_lives, carrier_made}
+use Rattle.history_rows.proofs.CallActs.{call_caller_there}
+use Rattle.history_rows.proofs.Granules.{fits_spawn}
+use Rattle.history_rows.proofs.ServiceRows.{was_handed}
+use Rattle.history_rows.proofs.Permission.{lives_in, lives_by_rows, numbered_row, no_row, unmade_entry}
+use Rattle.history_rows.proofs.Acting.{by_number, owner_in, owner_by_rows, no_export, at_most, beyond}
+
+-- ---- domains
+
+no_birth : (past : Past) (d : ℕ) → (d ≡ 0) ⊎ (domains_made past < d) → birth_of past d ≡ None
+unfolding birth_of
+no_birth past d (inr l) = nth_none is_birth past d l
+no_birth past d (inl q) = by (nth_entry is_birth past d) refl
+  where
+    by : (o : Option Entry) → nth_entry is_birth past d ≡ o → o ≡ None
+    by None z = refl
+    by (Some x) z = absurd (omega (arith, (nth_passes is_birth past d x z).1, q))
+
+some_again : (o : Option ℕ) → is_some o ≡ true → o ≡ Some (or_zero o)
+unfolding or_zero
+some_again None h = cc
+some_again (Some x) h = refl
+
+-- the rows say who made a domain
+pub creator_by_rows : (s : System) (past : Past) (d : ℕ) → creator_of past d ≡ mapped (λ row. row.creator.0) (numbered (domain_rows s past) d)
+unfolding domain_rows domain_row creator_of mapped birth_of
+creator_by_rows s past d =
+    by_number (domain_row s past) (λ (row : DomainState). row.creator.0) (domains_made past) d (creator_of past d)
+    (λ l u. some_again (creator_of past d) (there (nth_entry is_birth past d) (nth_there is_birth past d l u)))
+    (λ h. ap (mapped (λ (e : Entry). e.domain.0)) (no_birth past d h))
+  where
+    there : (o : Option Entry) → is_some o ≡ true → is_some (mapped (λ (e : Entry). e.domain.0) o) ≡ true
+    there None h = cc
+    there (Some x) h = refl
+
+births : (s : System) (past : Past) (d : ℕ) (b : Act) (r : Reply) → r ≡ reply_to s past d b → makes_domain b r ≡ true → is_some (named_template s b) ≡ true
+unfolding makes_domain named_template reply_to
+births s past d (act.Create t) r q m = refl
+births s past d (act.Spawn name) (reply.Domain j g) q m = ap is_some (fits_spawn s past name j g q).1
+births s past d _ _ q m = cc
+
+birth_there : (past : Past) (d : ℕ) → 1 ≤ d → d ≤ domains_made past → is_some (birth_of past d) ≡ true
+unfolding birth_of
+birth_there past d l u = nth_there is_birth past d l u
+
+-- a domain that was made has a template
+pub template_there : (s : System) (past : Past) (d : ℕ) (x : Entry) → IsAdmittedPast s past → birth_of past d ≡ Some x → is_some (named_template s x.act) ≡ true
+unfolding birth_of nth_entry is_birth
+template_there s [] d x a h = cc
+template_there s (e ∷ past) d x a h = by (is_birth e && (d == domains_made past + 1)) refl h (template_there s past d x a.1)
+  where
+    by : (b : Bool) → (is_birth e && (d == domains_made past + 1)) ≡ b → (elim b as (λ _. Option Entry) [ true ↦ Some e | false ↦ nth_entry is_birth past d ]) ≡ Some x →
+        (nth_entry is_birth past d ≡ Some x → is_some (named_template s x.act) ≡ true) → is_some (named_template s x.act) ≡ true
+    by true q h again = let z : e ≡ x = cc in ap (λ (y : Entry). is_some (named_template s y.act)) (sym z) ∙ births s past e.domain.0 e.act e.reply a.0.reply (both (is_birth e) (d == domains_made past + 1) q).0
+    by false q h again = again h
+
+-- the rows say a domain's template
+pub template_by_rows : (s : System) (past : Past) (d : ℕ) → IsAdmittedPast s past → template_of s past d ≡ mapped (λ row. row.template) (numbered (domain_rows s past) d)
+unfolding domain_rows domain_row template_of and_then
+template_by_rows s past d a =
+    by_number (domain_row s past) (λ (row : DomainState). row.template) (domains_made past) d (template_of s past d)
+    (λ l u. some_again (template_of s past d) (there (birth_of past d) refl (birth_there past d l u)))
+    (λ h. ap (λ (o : Option Entry). and_then o (λ e. named_template s e.act)) (no_birth past d h))
+  where
+    there : (o : Option Entry) → birth_of past d ≡ o → is_some o ≡ true → is_some (and_then o (λ e. named_template s e.act)) ≡ true
+    there None q h = cc
+    there (Some x) q h = template_there s past d x a q
+
+-- ---- services
+
+-- the rows say a service's interface
+pub interface_by_rows : (past : Past) (k : ℕ) → interface_of past k ≡ and_then (numbered (service_rows past) k) (λ row. row.interface)
+unfolding service_rows service_row interface_of and_then
+interface_by_rows past k = by (nat_lt 0 k) refl (nat_le k (services_made past)) refl
+  where
+    some : (c : ℕ) → nat_lt 0 c ≡ true → 1 ≤ c
+    some c q = grind (arith, nat_tests)
+
+    zeroth : (c : ℕ) → nat_lt 0 c ≡ false → c ≡ 0
+    zeroth c q = grind (arith, nat_tests)
+
+    none : (k ≡ 0) ⊎ (services_made past < k) → interface_of past k ≡ and_then (numbered (map (service_row past) (up_to (services_made past))) k) (λ row. row.interface)
+    none h = ap (λ (o : Option Entry). and_then o (λ e. exported_interface e.act e.reply)) (no_export past k h) ∙ sym (ap (λ (o : Option ServiceRow). and_then o (λ row. row.interface)) (no_row (service_row past) (services_made past) k h))
+
+    by : (x : Bool) → nat_lt 0 k ≡ x → (y : Bool) → nat_le k (services_made past) ≡ y → interface_of past k ≡ and_then (numbered (map (service_row past) (up_to (services_made past))) k) (λ row. row.interface)
+    by false q y r = none (inl (zeroth k q))
+    by true q false r = none (inr (beyond k (services_made past) r))
+    by true q true r = sym (ap (λ (o : Option ServiceRow). and_then o (λ row. row.interface)) (numbered_row (service_row past) (services_made past) k (some k q) (at_most k (services_made past) r)))
+
+passes_same : (o : Option ℕ) (f g : ℕ → Bool) → ((k : ℕ) → f k ≡ g k) → passes f o ≡ passes g o
+unfolding passes
+passes_same None f g h = refl
+passes_same (Some k) f g h = h k
+
+-- the rows say whether a service's owner lives
+pub live_owner_by_rows : (s : System) (past : Past) (k : ℕ) → has_live_owner past k ≡ passes (lives_in (domain_rows s past)) (owner_in (service_rows past) k)
+unfolding has_live_owner
+live_owner_by_rows s past k = passes_same (owner_of past k) (is_live past) (lives_in (domain_rows s past)) (lives_by_rows s past) ∙ ap (passes (lives_in (domain_rows s past))) (owner_by_rows past k)
+
+-- the test of a row by its number, where what isn't made fails
+pub test_by_number : {A : Type 0} (f : ℕ → A) (p : A → Bool) (n c : ℕ) (b : Bool) → (1 ≤ c → c ≤ n → b ≡ p (f c)) → ((c ≡ 0) ⊎ (n < c) → b ≡ false) → b ≡ passes p (numbered (map f (up_to n)) c)
+unfolding passes
+test_by_number f p n c b there none = by (nat_lt 0 c) refl (nat_le c n) refl
+  where
+    some : (c : ℕ) → nat_lt 0 c ≡ true → 1 ≤ c
+    some c q = grind (arith, nat_tests)
+
+    zeroth : (c : ℕ) → nat_lt 0 c ≡ false → c ≡ 0
+    zeroth c q = grind (arith, nat_tests)
+
+    by : (x : Bool) → nat_lt 0 c ≡ x → (y : Bool) → nat_le c n ≡ y → b ≡ passes p (numbered (map f (up_to n)) c)
+    by false q y r = none (inl (zeroth c q)) ∙ sym (ap (passes p) (no_row f n c (inl (zeroth c q))))
+    by true q false r = none (inr (beyond c n r)) ∙ sym (ap (passes p) (no_row f n c (inr (beyond c n r))))
+    by true q true r = there (some c q) (at_most c n r) ∙ sym (ap (passes p) (numbered_row f n c (some c q) (at_most c n r)))
+
+not_true : (b : Bool) → (b ≡ true → ⊥) → b ≡ false
+not_true true h = absurd (h refl)
+not_true false h = refl
+
+not_among : (p : ℕ → Bool) (a n k : ℕ) → (k < a) ⊎ (a + n ≤ k) → contains_number (filter p (range_with_len a n)) k ≡ false
+unfolding contains_number
+not_among p a zero k h = refl
+not_among p a (suc n) k h = by (p a) (filter p (range_with_len (a + 1) n)) (not_among p (a + 1) n k (later h)) (other h)
+  where
+    later : (k < a) ⊎ (a + suc n ≤ k) → (k < a + 1) ⊎ (a + 1 + n ≤ k)
+    later (inl l) = inl (omega (arith, l))
+    later (inr l) = inr (omega (arith, l))
+
+    other : (k < a) ⊎ (a + suc n ≤ k) → (a == k) ≡ false
+    other (inl l) = not_that a k (λ q. omega (arith, q, l))
+    other (inr l) = not_that a k (λ q. omega (arith, q, l))
+
+    by : (b : Bool) (ys : List ℕ) → contains_number ys k ≡ false → (a == k) ≡ false → contains_number (cond b (a ∷ ys) ys) k ≡ false
+    by true ys h q = ap (λ (x : Bool). x || contains_number ys k) q ∙ h
+    by false ys h q = h
+
+-- who is among the numbers that pass passes, where what isn't among them fails
+pub among : (p : ℕ → Bool) (n d : ℕ) → (p d ≡ true → (1 ≤ d) × (d ≤ n)) → p d ≡ contains_number (filter p (up_to n)) d
+unfolding up_to
+among p n d h = by (nat_lt 0 d) refl (nat_le d n) refl
+  where
+    some : (c : ℕ) → nat_lt 0 c ≡ true → 1 ≤ c
+    some c q = grind (arith, nat_tests)
+
+    zeroth : (c : ℕ) → nat_lt 0 c ≡ false → c ≡ 0
+    zeroth c q = grind (arith, nat_tests)
+
+    by : (x : Bool) → nat_lt 0 d ≡ x → (y : Bool) → nat_le d n ≡ y → p d ≡ contains_number (filter p (range_with_len 1 n)) d
+    by false q y r = not_true (p d) (λ z. absurd (omega (arith, (h z).0, zeroth d q))) ∙ sym (not_among p 1 n d (inl (zeroth_low (zeroth d q))))
+      where
+        zeroth_low : d ≡ 0 → d < 1
+        zeroth_low q = omega (arith, q)
+    by true q false r = not_true (p d) (λ z. absurd (omega (arith, (h z).1, beyond d n r))) ∙ sym (not_among p 1 n d (inr (omega (arith, beyond d n r))))
+    by true q true r = sym (contains_kept p 1 n d (some d q) (omega (arith, at_most d n r)))
+
+-- who holds a portal is live
+pub portal_lives : (past : Past) (d k : ℕ) → holds_portal past d k ≡ true → is_live past d ≡ true
+unfolding holds_portal
+portal_lives past d k h = (both (is_live past d) (was_handed past d k) h).0
+
+-- the rows say who holds a portal
+pub portal_by_rows : (s : System) (past : Past) (d k : ℕ) → IsAdmittedPast s past → holds_portal past d k ≡ passes (λ row. contains_number row.holders d) (numbered (service_rows past) k)
+unfolding service_rows service_row
+portal_by_rows s past d k a =
+    test_by_number (service_row past) (λ (row : ServiceRow). contains_number row.holders d) (services_made past) k (holds_portal past d k)
+    (λ l u. among (λ d. holds_portal past d k) (domains_made past) d (λ h. let m = live_made past d (portal_lives past d k h) in (m.low, m.high)))
+    (λ h. not_true (holds_portal past d k) (λ z. none h z))
+  where
+    none : (k ≡ 0) ⊎ (services_made past < k) → holds_portal past d k ≡ true → ⊥
+    none (inl q) z = absurd (omega (arith, q, (held_made s past d k a z).low))
+    none (inr l) z = absurd (omega (arith, l, (held_made s past d k a z).high))
+
+-- ---- calls and objects
+
+-- the rows say whether a call's caller lives
+pub live_caller_by_rows : (s : System) (past : Past) (c : ℕ) → has_live_caller past c ≡ passes (λ row. lives_in (domain_rows s past) row.caller) (numbered (call_rows past) c)
+unfolding call_rows call_row has_live_caller caller_of passes mapped
+live_caller_by_rows s past c =
+    test_by_number (call_row past) (λ (row : CallRow). lives_in (domain_rows s past) row.caller) (calls_made past) c (has_live_caller past c)
+    (λ l u. ap (passes (is_live past)) (call_caller_there past c l u) ∙ lives_by_rows s past (or_zero (caller_of past c)))
+    (λ h. ap (λ (o : Option Entry). passes (is_live past) (mapped (λ e. e.domain.0) o)) (unmade_entry past c h))
+
+-- no object has the number 0
+zero_invalid : (past : Past) → is_valid past 0 ≡ false
+unfolding is_valid
+zero_invalid [] = refl
+zero_invalid (e ∷ past) =
+    ap2 (λ (b c : Bool). if b then c && not (ends_one_of (lineage_of (objects_of past) 0) e) else nat_le 0 (objects_made (e ∷ past))) (least (objects_made past)) (zero_invalid past)
+  where
+    least : (n : ℕ) → nat_le 0 n ≡ true
+    least n = grind (arith, nat_tests)
+
+-- the rows say which objects are valid
+pub valid_by_rows : (past : Past) (m : ℕ) → is_valid past m ≡ passes (λ row. row.valid) (numbered (object_rows past) m)
+unfolding object_rows object_row
+valid_by_rows past m =
+    test_by_number (object_row past) (λ (row : ObjectRow). row.valid) (objects_made past) m (is_valid past m) (λ l u. refl) none
+  where
+    above : (a b : ℕ) → b < a → nat_le a b ≡ false
+    above a b l = grind (arith, nat_tests)
+
+    none : (m ≡ 0) ⊎ (objects_made past < m) → is_valid past m ≡ false
+    none (inl q) = ap (is_valid past) q ∙ zero_invalid past
+    none (inr l) = valid_none past m (above m (objects_made past) l)
+
+-- nothing holds or carries the object 0
+pub zero_unused : (s : System) (past : Past) → IsAdmittedPast s past → Use past 0 → ⊥
+unfolding count_where
+zero_unused s [] a (ByDomain d h) = let m = live_made [] d (holder_lives [] d 0 h) in absurd (omega (arith, m.low, m.high, none))
+  where
+    none : domains_made [] ≡ 0
+    none = refl
+zero_unused s [] a (ByCall c h) = let m = carrier_made [] c 0 h in absurd (omega (arith, m.0, m.1, none))
+  where
+    none : calls_made [] ≡ 0
+    none = refl
+zero_unused s (e ∷ past) a u = zero_unused s past a.1 (use_before s e past 0 a (omega arith) u)
+
+-- the rows say who holds an object
+pub object_by_rows : (s : System) (past : Past) (d m : ℕ) → IsAdmittedPast s past → holds_object past d m ≡ passes (λ row. contains_number row.holders d) (numbered (object_rows past) m)
+unfolding object_rows object_row holders
+object_by_rows s past d m a =
+    test_by_number (object_row past) (λ (row : ObjectRow). contains_number row.holders d) (objects_made past) m (holds_object past d m)
+    (λ l u. among (λ d. holds_object past d m) (domains_made past) d (λ h. let v = live_made past d (holder_lives past d m h) in (v.low, v.high)))
+    (λ h. not_true (holds_object past d m) (λ z. none h z))
+  where
+    none : (m ≡ 0) ⊎ (objects_made past < m) → holds_object past d m ≡ true → ⊥
+    none (inl q) z = zero_unused s past a (ByDomain d (ap (λ (j : ℕ). holds_object past d j) (sym q) ∙ z))
+    none (inr l) z = absurd (omega (arith, use_made s past m a (ByDomain d z), l))
+
+-- ---- granules
+
+-- where the tests agree on all granules, so does the first fit
+pub fit_same : (used flags : ℕ → Bool) (limit n more g : ℕ) → ((k : ℕ) → k < limit → used k ≡ flags k) → (more ≡ 0) ⊎ (more + g + n ≤ limit + 1) → least_free used n more g ≡ least_free flags n more g
+unfolding least_free is_free_run
+fit_same used flags limit n zero g h w = refl
+fit_same used flags limit n (suc more) g h w =
+    ap2 (λ (b : Bool) (o : Option ℕ). elim b as (λ _. Option ℕ) [ true ↦ Some g | false ↦ o ]) (runs g n (omega (arith, fits w))) (fit_same used flags limit n more (g + 1) h (later more (fits w)))
+  where
+    fits : (suc more ≡ 0) ⊎ (suc more + g + n ≤ limit + 1) → suc more + g + n ≤ limit + 1
+    fits (inl q) = absurd (omega (arith, q))
+    fits (inr l) = l
+
+    later : (x : ℕ) → suc x + g + n ≤ limit + 1 → (x ≡ 0) ⊎ (x + (g + 1) + n ≤ limit + 1)
+    later x l = inr (omega (arith, l))
+
+    runs : (a j : ℕ) → a + j ≤ limit → list_all (λ k. not (used k)) (range_with_len a j) ≡ list_all (λ k. not (flags k)) (range_with_len a j)
+    runs a zero l = refl
+    runs a (suc j) l = ap2 (λ (x y : Bool). not x && y) (h a (omega (arith, l))) (runs (a + 1) j (omega (arith, l)))
+
+-- whether the granule's flag is set
+abbrev pub is_flagged : List Bool → ℕ → Bool
+is_flagged taken g = passes (λ b. b) (slice_get taken g)
+
+-- the flags say the first fit
+pub fit_by_flags : (s : System) (past : Past) (n : ℕ) → first_fit s past n ≡ least_free (is_flagged (granule_row s past)) n (granule_limit s + 1 - n) 0
+unfolding first_fit granule_row is_used_granule passes
+fit_by_flags s past n =
+    fit_same (lies_in_one (used_runs s past)) (is_flagged (granule_row s past)) (granule_limit s) n (granule_limit s + 1 - n) 0
+    (λ k l. sym (ap (passes (λ (b : Bool). b)) (get_range (is_used_granule s past) 0 (granule_limit s) k l) ∙ ap (is_used_granule s past) (omega arith)))
+    (cases (granule_limit s) n)
+  where
+    cases : (x n : ℕ) → ((x + 1 - n) ≡ 0) ⊎ (x + 1 - n + 0 + n ≤ x + 1)
+    cases x n = by (nat_le n (x + 1)) refl
+      where
+        by : (b : Bool) → nat_le n (x + 1) ≡ b → ((x + 1 - n) ≡ 0) ⊎ (x + 1 - n + 0 + n ≤ x + 1)
+        by true q = inr (omega (arith, at_most n (x + 1) q))
+        by false q = inl (omega (arith, beyond n (x + 1) q))
+
+-- ---- runs
+
+-- a domain's row says its heap's granules
+pub heap_run_by_row : (s : System) (past : Past) (d : ℕ) → IsAdmittedPast s past → 1 ≤ d → d ≤ domains_made past → heap_run s past d ≡ (let row : DomainState = domain_row s past d in (row.at, heap_granules s row.template))
+unfolding heap_run domain_row template_of and_then or_zero mapped
+heap_run_by_row s past d a l u = ap (λ (n : ℕ). let r : Run = (or_zero (heap_place_of past d), n) in r) (by (template_of s past d) (there (birth_of past d) refl (birth_there past d l u)))
+  where
+    there : (o : Option Entry) → birth_of past d ≡ o → is_some o ≡ true → is_some (template_of s past d) ≡ true
+    there None q h = cc
+    there (Some x) q h = ap (λ (o : Option Entry). is_some (and_then o (λ e. named_template s e.act))) q ∙ template_there s past d x a q
+
+    by : (o : Option ℕ) → is_some o ≡ true → or_zero (mapped (heap_granules s) o) ≡ heap_granules s (or_zero o)
+    by None h = cc
+    by (Some t) h = refl
+
+-- an extent's row says whether it is in use
+pub in_use_by_row : (past : Past) (x : ℕ) → is_extent_in_use past x ≡ is_some (extent_row past x).bytes
+unfolding extent_row
+in_use_by_row past x = by (is_extent_in_use past x) (extent_bytes past x)
+  where
+    by : (b : Bool) (xs : List ℕ) → b ≡ is_some (if b then Some xs else None)
+    by true xs = refl
+    by false xs = refl

@@ -1,0 +1,156 @@
+-- The table of all threads after an entry more.
+use Rattle.std.proofs.Common.{◌≡◌, ◌≢◌, refl, sym, ◌∙◌, ap, subst, ℕ, suc, zero, ◌+◌, ◌<◌, ◌≤◌, Bool, true, false, List, [], ◌∷◌, ◌++◌, length, map, Option, Some, None, arith, ◌==◌, ◌⊎◌, inl, inr, slice_get, set, length-append}
+use Rattle.std.specs.List.{range_with_len}
+use Rattle.std.proofs.lemmas.List.{map-append}
+use Rattle.jx_base.specs.declared.act.Entry.{Entry}
+use Rattle.jx_base.specs.declared.ids.CallId.{CallId}
+use Rattle.jx_base.specs.declared.ids.ServiceId.{ServiceId}
+use Rattle.jx_base.specs.declared.program.System.{System}
+use Rattle.jx_base.specs.declared.states.ThreadState.TheVariants as thread
+use Rattle.jx_base.specs.Basics.{up_to, mapped, passes}
+use Rattle.jx_base.specs.Histories.{Past, is_own}
+use Rattle.jx_model.specs.Domains.{is_birth, domains_made}
+use Rattle.jx_model.specs.Threads.{service_threads, new_threads_of, threads_of, is_of_thread, state_by_last, serving_state, thread_state, is_running_state}
+use Rattle.jx_model.specs.Tables.{ThreadRow, thread_row, thread_rows, state_or_over}
+use Rattle.jx_model.specs.Legal.{IsNext, IsAdmittedPast}
+use Rattle.jx_base.proofs.BasicLaws.{ap2, ap3, eq_of, range_append}
+use Rattle.jx_base.proofs.NthEntries.{count_new, count_same}
+use Rattle.jx_model.proofs.OneThread.{serves_same, last_same, state_with}
+use Rattle.history_rows.proofs.Rows.{map_range, set_range, rows_same, rows_more, rows_set, not_that, same_or_not}
+use Rattle.history_rows.proofs.ThreadRows.{service_of_thread, leaves_thread, threads_of_own, threads_of_other, idle_row, row_left, thread_row_own, thread_row_other, not_this}
+use Rattle.history_rows.proofs.Actors.{unmade_acts}
+use Rattle.history_rows.proofs.Absent.{IsAbsent, absent, unmade_absent, unmade_threads, stranger}
+
+-- all threads, by domain
+abbrev pub thread_table : Past → List (List ThreadRow)
+thread_table past = map (thread_rows past) (up_to (domains_made past))
+
+own_of : (e : Entry) (d : ℕ) → e.domain.0 ≢ d → is_own d e ≡ false
+unfolding is_own
+own_of e d h = not_that e.domain.0 d (λ q. h (sym q))
+
+-- an entry of a made domain sets that domain's rows
+pub threads_after : (e : Entry) (past : Past) (d i : ℕ) → is_birth e ≡ false → e.domain.0 ≡ d → d ≡ i + 1 → d ≤ domains_made past →
+    thread_table (e ∷ past) ≡ set (thread_table past) i (thread_rows (e ∷ past) d)
+threads_after e past d i b q z u =
+    ap (λ (k : ℕ). map (thread_rows (e ∷ past)) (up_to k)) (count_same is_birth e past b)
+    ∙ rows_set (thread_rows past) (thread_rows (e ∷ past)) (domains_made past) d i z u (λ k l v n. sym (threads_of_other e past k (own_of e k (λ x. n (sym x ∙ q)))))
+
+-- the rows of each domain stay where those of the entry's domain do
+pub rows_kept : (e : Entry) (past : Past) (k : ℕ) → 1 ≤ k → (1 ≤ e.domain.0 → thread_rows (e ∷ past) e.domain.0 ≡ thread_rows past e.domain.0) → thread_rows (e ∷ past) k ≡ thread_rows past k
+unfolding is_own
+rows_kept e past k l h = by (e.domain.0 == k) refl
+  where
+    by : (b : Bool) → (e.domain.0 == k) ≡ b → thread_rows (e ∷ past) k ≡ thread_rows past k
+    by false q = threads_of_other e past k q
+    by true q = let z = eq_of e.domain.0 k q in
+        subst (λ (n : ℕ). thread_rows (e ∷ past) n ≡ thread_rows past n) z (h (omega (arith, z, l)))
+
+-- an entry that changes no row of its domain changes none
+pub threads_kept : (e : Entry) (past : Past) → is_birth e ≡ false → (1 ≤ e.domain.0 → thread_rows (e ∷ past) e.domain.0 ≡ thread_rows past e.domain.0) → thread_table (e ∷ past) ≡ thread_table past
+threads_kept e past b h =
+    ap (λ (k : ℕ). map (thread_rows (e ∷ past)) (up_to k)) (count_same is_birth e past b)
+    ∙ rows_same (thread_rows (e ∷ past)) (thread_rows past) (domains_made past) (λ k l u. rows_kept e past k l h)
+
+set_itself : {A : Type 0} (f : ℕ → A) (a n i : ℕ) → i < n → set (map f (range_with_len a n)) i (f (a + i)) ≡ map f (range_with_len a n)
+set_itself f a n i l = sym (set_range f f a n i l (λ k x y z. refl))
+
+-- an act of a running thread that leaves it running leaves its domain's rows
+pub rows_left : (e : Entry) (past : Past) (d t : ℕ) → new_threads_of d e ≡ [] → is_of_thread d t e ≡ true → t ≤ length (service_threads past d) →
+    passes is_running_state (thread_state past d t) ≡ true → leaves_thread e.act e.reply ≡ true → thread_rows (e ∷ past) d ≡ thread_rows past d
+unfolding thread_rows threads_of
+rows_left e past d t n h l r k =
+    threads_of_own e past d t n h l
+    ∙ ap (set (map (thread_row past d) (range_with_len 0 (length (service_threads past d) + 1))) t) (row_left past d t e.act e.reply r k ∙ ap (thread_row past d) (omega arith))
+    ∙ set_itself (thread_row past d) 0 (length (service_threads past d) + 1) t (omega (arith, l))
+
+-- ---- a new domain
+
+-- the rows of a domain that was just made
+abbrev pub first_rows : List ThreadRow
+first_rows = record { state = thread.Running; serves = None } ∷ []
+
+new_rows : (past : Past) (d : ℕ) → service_threads past d ≡ [] → IsAbsent past d 0 → thread_rows past d ≡ first_rows
+unfolding thread_rows threads_of thread_row thread_state state_or_over state_by_last
+new_rows past d h a =
+    ap (λ (ss : List ServiceId). map (thread_row past d) (range_with_len 0 (length ss + 1))) h
+    ∙ ap2 (λ (o : Option Entry) (c : Option CallId). let row : ThreadRow = record { state = state_by_last thread.Running o; serves = c } in row ∷ []) a.last a.serves
+
+-- the entry that makes a domain adds the rows of its first thread
+pub threads_after_birth : (s : System) (e : Entry) (past : Past) → IsAdmittedPast s (e ∷ past) → is_birth e ≡ true → (1 ≤ e.domain.0 → thread_rows (e ∷ past) e.domain.0 ≡ thread_rows past e.domain.0) →
+    thread_table (e ∷ past) ≡ thread_table past ++ first_rows ∷ []
+unfolding is_own
+threads_after_birth s e past a b h =
+    ap (λ (k : ℕ). map (thread_rows (e ∷ past)) (up_to k)) (count_new is_birth e past b)
+    ∙ rows_more (thread_rows (e ∷ past)) (domains_made past)
+    ∙ ap2 (λ (xs : List (List ThreadRow)) (x : List ThreadRow). xs ++ x ∷ [])
+    (rows_same (thread_rows (e ∷ past)) (thread_rows past) (domains_made past) (λ k l u. rows_kept e past k l h))
+    (threads_of_other e past (domains_made past + 1) (own_by (unmade_acts s past e (domains_made past + 1) a.0 (omega arith)))
+    ∙ new_rows past (domains_made past + 1) (unmade_threads s past (domains_made past + 1) a.1 (omega arith)) (unmade_absent s past (domains_made past + 1) 0 a.1 (omega arith)))
+  where
+    own_by : (e.domain.0 == (domains_made past + 1)) ≡ false → is_own (domains_made past + 1) e ≡ false
+    own_by q = q
+
+-- ---- an export
+
+map_items : {A B : Type 0} (f : ℕ → B) (g : A → B) (a : ℕ) (xs : List A) → ((i : ℕ) (x : A) → slice_get xs i ≡ Some x → f (a + i) ≡ g x) → map f (range_with_len a (length xs)) ≡ map g xs
+map_items f g a [] h = refl
+map_items {B = B} f g a (x ∷ xs) h =
+    ap2 (λ (y : B) (ys : List B). y ∷ ys) (ap f (omega arith) ∙ h 0 x refl)
+    (map_items f g (a + 1) xs (λ i y q. ap f (omega arith) ∙ h (suc i) y q))
+
+get_left : {A : Type 0} (xs ys : List A) (i : ℕ) → i < length xs → slice_get (xs ++ ys) i ≡ slice_get xs i
+get_left [] ys i l = absurd (omega (arith, l))
+get_left (x ∷ xs) ys zero l = refl
+get_left (x ∷ xs) ys (suc i) l = get_left xs ys i (omega (arith, l))
+
+get_right : {A : Type 0} (xs ys : List A) (i j : ℕ) → j ≡ length xs + i → slice_get (xs ++ ys) j ≡ slice_get ys i
+get_right [] ys i j q = ap (slice_get ys) (omega (arith, q))
+get_right (x ∷ xs) ys i zero q = absurd (omega (arith, q))
+get_right (x ∷ xs) ys i (suc j) q = get_right xs ys i j (omega (arith, q))
+
+-- a thread that was there keeps its service
+kept_service : (e : Entry) (past : Past) (d t : ℕ) → t ≤ length (service_threads past d) → service_of_thread (e ∷ past) d t ≡ service_of_thread past d t
+unfolding service_threads
+kept_service e past d zero l = refl
+kept_service e past d (suc t) l = get_left (service_threads past d) (new_threads_of d e) t (omega (arith, l))
+
+-- a thread that was just added is idle
+added_row : (s : System) (e : Entry) (past : Past) (d i : ℕ) (k : ServiceId) → IsNext s past e → IsAdmittedPast s past → slice_get (new_threads_of d e) i ≡ Some k →
+    thread_row (e ∷ past) d (suc (length (service_threads past d) + i)) ≡ idle_row k
+unfolding thread_row thread_state state_or_over service_threads state_by_last serving_state mapped
+added_row s e past d i k n a h =
+    ap3 (λ (c : Option CallId) (o : Option Entry) (k : Option ServiceId). let row : ThreadRow = record { state = state_or_over (mapped (state_with c o) k); serves = c } in row)
+    (serves_same e past d t o ∙ b.serves) (last_same e past d t o ∙ b.last) (get_right (service_threads past d) (new_threads_of d e) i (length (service_threads past d) + i) refl ∙ h)
+  where
+    t : ℕ
+    t = suc (length (service_threads past d) + i)
+
+    b : IsAbsent past d t
+    b = absent s past d t a (omega arith)
+
+    o : is_of_thread d t e ≡ false
+    o = stranger s past e d t n (omega arith)
+
+-- an export by a running thread adds idle threads
+pub threads_added : (s : System) (e : Entry) (past : Past) (d t : ℕ) → IsAdmittedPast s (e ∷ past) → is_of_thread d t e ≡ true → t ≤ length (service_threads past d) →
+    passes is_running_state (thread_state past d t) ≡ true → leaves_thread e.act e.reply ≡ true →
+    thread_rows (e ∷ past) d ≡ thread_rows past d ++ map idle_row (new_threads_of d e)
+unfolding thread_rows threads_of is_of_thread service_threads
+threads_added s e past d t a h l r k =
+    ap (λ (n : ℕ). map (thread_row (e ∷ past) d) (range_with_len 0 n)) longer
+    ∙ ap (map (thread_row (e ∷ past) d)) (range_append 0 (length (service_threads past d) + 1) (length (new_threads_of d e)))
+    ∙ map-append (thread_row (e ∷ past) d) (range_with_len 0 (length (service_threads past d) + 1)) _
+    ∙ ap2 (λ (xs ys : List ThreadRow). xs ++ ys)
+    (map_range (thread_row (e ∷ past) d) (thread_row past d) 0 (length (service_threads past d) + 1) (λ j x y. old j (omega (arith, y)) (same_or_not j t)))
+    (map_items (thread_row (e ∷ past) d) idle_row (0 + (length (service_threads past d) + 1)) (new_threads_of d e) (λ i x q. ap (thread_row (e ∷ past) d) (omega arith) ∙ added_row s e past d i x a.0 a.1 q))
+  where
+    longer : length (service_threads (e ∷ past) d) + 1 ≡ length (service_threads past d) + 1 + length (new_threads_of d e)
+    longer = omega (arith, length-append (service_threads past d) (new_threads_of d e))
+
+    own : thread_row (e ∷ past) d t ≡ thread_row past d t
+    own = thread_row_own e past d t (kept_service e past d t l) h l ∙ row_left past d t e.act e.reply r k
+
+    old : (j : ℕ) → j ≤ length (service_threads past d) → (j ≡ t) ⊎ (j ≢ t) → thread_row (e ∷ past) d j ≡ thread_row past d j
+    old j u (inl q) = subst (λ (x : ℕ). thread_row (e ∷ past) d x ≡ thread_row past d x) (sym q) own
+    old j u (inr q) = thread_row_other e past d j (kept_service e past d j u) (not_this (is_own d e) e.thread.0 t j h q)

@@ -1,0 +1,5 @@
+pub mod Laws
+pub mod Order
+pub mod Bounds
+pub mod Handed
+pub mod Ended

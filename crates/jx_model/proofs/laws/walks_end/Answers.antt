@@ -1,5 +1,0 @@
-use Rattle.jx_model.proofs.OneWalk.{only_walk}
-use Rattle.jx_model.proofs.laws.walks_end.Goals as goal
-
-pub returns : goal.returns
-returns c = only_walk

@@ -1,0 +1,3 @@
+pub mod ClassFiles
+pub mod Linking
+pub mod LinkFaults

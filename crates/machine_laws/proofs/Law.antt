@@ -1,0 +1,117 @@
+-- The act that a domain's code performs next is well made.
+use Rattle.std.proofs.Common.{◌≡◌, refl, ◌∙◌, ap, subst, ℕ, ◌+◌, ◌≤◌, Bool, true, false, cond, [], ◌∷◌, Option, Some, None, is_some, arith}
+use Rattle.std.specs.Prelude.{filter, codes, IsSome, nat_le, if◌then◌else◌}
+use Rattle.jx_base.specs.declared.act.Refusal.TheVariants as refusal
+use Rattle.program_model.specs.Limits.{service_limit}
+use Rattle.jx_base.specs.declared.act.Act.{Act}
+use Rattle.jx_base.specs.declared.act.Act.TheVariants as act
+use Rattle.jx_base.specs.declared.act.Reply.{Reply}
+use Rattle.jx_base.specs.declared.act.Reply.TheVariants as reply
+use Rattle.jx_base.specs.declared.act.Entry.{Entry}
+use Rattle.jx_base.specs.declared.ids.ClassId.{ClassId}
+use Rattle.jx_base.specs.declared.ids.ServiceId.{ServiceId}
+use Rattle.jx_base.specs.declared.program.System.{System}
+use Rattle.jx_base.specs.declared.program.Template.{Template}
+use Rattle.jx_base.specs.Basics.{and_then, mapped}
+use Rattle.program_model.specs.BuiltIn.{opened_built_in}
+use Rattle.machine_model.specs.BuiltInMethods.{unit_of}
+use Rattle.jx_base.specs.Histories.{Past, own_entries, is_own}
+use Rattle.jx_model.specs.Legal.{IsAdmittedPast, IsNext}
+use Rattle.program_model.specs.Lookup.{template_at}
+use Rattle.machine_model.specs.Machine.{NextAct, no_state, domain_state, next_act}
+use Rattle.machine_model.specs.MachineThreads.{idle_thread}
+use Rattle.jx_model.specs.Portals.{interface_of, export_of, is_export, exported_interface, services_made}
+use Rattle.jx_model.specs.Replies.{reply_to, new_service, ◌refuses◌else◌}
+use Rattle.machine_model.specs.Running.{state_at_act}
+use Rattle.machine_model.specs.Start.{start_of, first_store, first_objects, object_of}
+use Rattle.machine_model.specs.State.{State, class_of_object, static_types}
+use Rattle.jx_base.proofs.NthEntries.{nth_new}
+use Rattle.machine_laws.specs.Handed.{IsReplyIn, IsExportedIn}
+use Rattle.machine_laws.specs.Law.{RepliesHold, NextIsWellMade}
+use Rattle.machine_laws.specs.Values.{IsStoreIn, IsStateIn}
+use Rattle.machine_laws.specs.Sound.{IsSound}
+use Rattle.machine_laws.proofs.Lists.{all_images}
+use Rattle.machine_laws.proofs.EntryValues.{entry_in, class_or_object}
+use Rattle.machine_laws.proofs.NumericValues.{built_in_class}
+use Rattle.machine_laws.proofs.StateValues.{at_act_in, act_in_in, finish_in, IsNextIn}
+use Rattle.machine_laws.proofs.Stores.{default_in, state_of_past}
+
+-- ---- the start
+
+first_in : (s : System) (past : Past) (t : Template) → IsSound s → t.heap ≤ 131072 → IsStoreIn s past (first_store s t)
+unfolding first_store first_objects object_of class_of_object mapped opened_built_in unit_of
+first_in s past t z h = record {
+  first = refl;
+  second = refl;
+  room = omega (arith, h);
+  objects = (
+    record { known = built_in_class s 16 z (omega arith) refl; small = omega arith; cells = (tt, tt); units = λ e. absurd (omega (arith, e)); text = λ e. absurd (omega (arith, e)) },
+    (record { known = class_or_object s past z (codes "[Ljava/lang/String;"); small = omega arith; cells = tt; units = λ e. tt; text = λ e. tt }, tt),
+  );
+  statics = all_images _ _ (λ type. default_in past (first_store s t) type) (static_types s);
+  literals = tt;
+  exports = tt;
+}
+
+start_in : (s : System) (past : Past) (t : Template) → IsSound s → t.heap ≤ 131072 → IsStateIn s past (start_of s t)
+unfolding start_of idle_thread
+start_in s past t z h = finish_in s past z _ 0 _ None (record { store = first_in s past t z h; threads = (record { frames = tt; stage = tt }, tt) }) tt
+
+begun_in : (s : System) (past : Past) (t : ℕ) → IsSound s → IsSome (template_at s t) → IsStateIn s past (domain_state s t [])
+unfolding domain_state
+begun_in s past t z h = by (template_at s t) refl h
+  where
+    by : (o : Option Template) → template_at s t ≡ o → is_some o ≡ true → IsStateIn s past (elim o as (λ _. State) [ None ↦ no_state | Some x ↦ start_of s x ])
+    by None e h = cc
+    by (Some x) e h = start_in s past x z (z.heaps t x e)
+
+-- ---- exports
+
+is_made : (iface : ClassId) (k : ℕ) (service : ServiceId) (c : ClassId) → exported_interface (act.Export iface k) (reply.Service service c) ≡ Some iface
+unfolding exported_interface
+is_made iface k service c = refl
+
+-- an export that made a service made it with its interface
+pub exported : (s : System) (e : Entry) (past : Past) (d : ℕ) (a : Act) (r : Reply) → r ≡ reply_to s past d a → e.act ≡ a → e.reply ≡ r → IsExportedIn (e ∷ past) a r
+unfolding reply_to new_service ◌refuses◌else◌ interface_of export_of and_then is_export
+exported s e past d (act.Export iface k) (reply.Service service c) q f g = by (nat_le (service_limit s) (services_made past)) q
+  where
+    both_are : exported_interface e.act e.reply ≡ Some iface
+    both_are = ap (λ (a : Act). exported_interface a e.reply) f ∙ ap (exported_interface (act.Export iface k)) g ∙ is_made iface k service c
+
+    by : (b : Bool) → reply.Service service c ≡ (if b then reply.Refused refusal.TooMany else reply.Service (record { 0 = services_made past + 1 }) iface) → interface_of (e ∷ past) service.0 ≡ Some iface
+    by true q = cc
+    by false q =
+        let n : service ≡ record { 0 = services_made past + 1 } = cc in
+        ap (λ (o : Option Entry). and_then o (λ x. exported_interface x.act x.reply)) (nth_new is_export e past service.0 (ap is_some both_are) (ap (λ (k : ServiceId). k.0) n)) ∙ both_are
+exported s e past d _ r q f g = tt
+
+-- ---- the law
+
+entry_exported : (s : System) (e : Entry) (past : Past) → IsNext s past e → IsExportedIn (e ∷ past) e.act e.reply
+entry_exported s e past n = exported s e past e.domain.0 e.act e.reply n.reply refl refl
+
+-- replies of what came before
+replies_before : (s : System) (e : Entry) (past : Past) → RepliesHold s (e ∷ past) → RepliesHold s past
+replies_before s e past h f p m = h f p (e ∷ m.0, ap (λ (xs : Past). e ∷ xs) m.1)
+
+own_state : (s : System) (t d : ℕ) (e : Entry) (past : Past) → IsSound s → IsNext s past e → IsReplyIn s (e ∷ past) e.reply → IsStateIn s past (domain_state s t (own_entries past d)) → IsStateIn s (e ∷ past) (domain_state s t (own_entries (e ∷ past) d))
+unfolding own_entries domain_state
+own_state s t d e past z n r h = by (is_own d e)
+  where
+    by : (b : Bool) → IsStateIn s (e ∷ past) (domain_state s t (cond b (e ∷ filter (is_own d) past) (filter (is_own d) past)))
+    by true = entry_in s (e ∷ past) z (state_at_act s (domain_state s t (filter (is_own d) past))) e
+        (state_of_past s past (e ∷ past) (state_at_act s (domain_state s t (filter (is_own d) past))) (e ∷ [], refl) (at_act_in s past z (domain_state s t (filter (is_own d) past)) h)) r (entry_exported s e past n)
+    by false = state_of_past s past (e ∷ past) (domain_state s t (filter (is_own d) past)) (e ∷ [], refl) h
+
+-- the state of a domain is one of values
+pub state_in : (s : System) (t d : ℕ) (past : Past) → IsSound s → IsSome (template_at s t) → IsAdmittedPast s past → RepliesHold s past → IsStateIn s past (domain_state s t (own_entries past d))
+unfolding own_entries
+state_in s t d [] z h a r = begun_in s [] t z h
+state_in s t d (e ∷ past) z h a r = own_state s t d e past z a.0 (r e past ([], refl)) (state_in s t d past z h a.1 (replies_before s e past r))
+
+-- what a domain performs next is well made
+pub next_well_made : (s : System) (past : Past) → IsSound s → IsAdmittedPast s past → RepliesHold s past → NextIsWellMade s past
+unfolding next_act
+next_well_made s past z a r d t b h e =
+    subst (λ (n : NextAct). IsNextIn s past z n) e (act_in_in s past z (state_at_act s (domain_state s t (own_entries past d))) (at_act_in s past z (domain_state s t (own_entries past d)) (state_in s t d past z h a r)))

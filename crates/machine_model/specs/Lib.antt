@@ -1,0 +1,10 @@
+pub mod NumericRows
+pub mod State
+pub mod BuiltInMethods
+pub mod ObjectRows
+pub mod MachineThreads
+pub mod Start
+pub mod Running
+pub mod AfterEntry
+pub mod Machine
+pub mod Conditions

@@ -1,0 +1,2 @@
+//! The machine of a domain as definitions: instructions, states and next acts.
+#![tactic(auto)]

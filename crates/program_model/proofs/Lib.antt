@@ -1,0 +1,2 @@
+pub mod WalkRounds
+pub mod OneWalk

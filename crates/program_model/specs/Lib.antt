@@ -1,0 +1,11 @@
+pub mod Limits
+pub mod ParcelParts
+pub mod Instructions
+pub mod Arithmetic
+pub mod Types
+pub mod BuiltIn
+pub mod Lookup
+pub mod Ranges
+pub mod DistinctNames
+pub mod Parcels
+pub mod Plans

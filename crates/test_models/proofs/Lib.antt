@@ -1,0 +1,16 @@
+pub mod ClassFileCases
+pub mod NumericCases
+pub mod Programs
+pub mod MachineCases
+pub mod ServiceCases
+pub mod LinkCases
+pub mod TableCases
+pub mod Examples
+pub mod EmptyPlan
+pub mod TwoDomains
+pub mod SelfCall
+pub mod Steps
+pub mod MoreSteps
+pub mod WalkCases
+pub mod KilledScript
+pub mod Witnesses

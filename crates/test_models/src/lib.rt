@@ -1,0 +1,2 @@
+//! Computed cases of the definitions.
+#![tactic(auto)]
