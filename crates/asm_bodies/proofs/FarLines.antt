@@ -1,4 +1,5 @@
 -- Lines that are too far from their labels, line by line.
+use Rattle.std.specs.Option.{option_or}
 use Rattle.std.proofs.Common.{◌≡◌, ◌∙◌, ℕ, suc, ◌+◌, ◌≤◌, ◌<◌, refl, sym, ap, List, [], ◌∷◌, length, drop, get_or, true, false, Option, Some, None, arith}
 use Rattle.std.specs.Prelude.{option_map, not}
 use Rattle.std.specs.List.{list_any}
@@ -9,7 +10,7 @@ use Rattle.asm_lines.specs.declared.line.Operand.{Operand}
 use Rattle.asm_lines.specs.declared.line.Operand.TheVariants as operand
 use Rattle.asm_bodies.specs.Needs.{line_length}
 use Rattle.asm_bodies.specs.Lines.{is_method}
-use Rattle.asm_bodies.specs.Bodies.{Mark, body_of, marks_of, is_near, is_far_operand, is_far, first_far_from, first_far_in, first_far, or_else}
+use Rattle.asm_bodies.specs.Bodies.{Mark, body_of, marks_of, is_near, is_far_operand, is_far, first_far_from, first_far_in, first_far}
 use Rattle.asm_bodies.proofs.LineByLine.{at_front}
 use Rattle.asm_bodies.proofs.MarkLaws.{Alike}
 
@@ -87,12 +88,10 @@ Passed lines i = behind i (first_far (drop i lines)) ≡ first_far lines
 pub none_passed : (lines : List Line) → Passed lines 0
 none_passed lines = behind_none (first_far lines)
 
-or_none : (place : Option ℕ) → or_else None place ≡ place
-unfolding or_else
+or_none : (place : Option ℕ) → option_or None place ≡ place
 or_none place = refl
 
-or_some : (n : ℕ) (place : Option ℕ) → or_else (Some n) place ≡ Some n
-unfolding or_else
+or_some : (n : ℕ) (place : Option ℕ) → option_or (Some n) place ≡ Some n
 or_some n place = refl
 
 pub no_method : (lines : List Line) (i : ℕ) (l : Line) → i < length lines → l ≡ get_or lines i l → is_method l ≡ false → Passed lines i → Passed lines (i + 1)

@@ -1,4 +1,5 @@
 -- Labels by their names.
+use Rattle.std.specs.Option.{option_or}
 use Rattle.std.proofs.Common.{◌≡◌, ◌∙◌, ℕ, ◌+◌, ◌≤◌, ◌<◌, refl, sym, ap, map, List, [], ◌∷◌, ◌++◌, length, drop, get_or, true, false, Option, Some, None, is_some, append_assoc, append-nil}
 use Rattle.std.specs.Prelude.{if◌then◌else◌, cond}
 use Rattle.std.specs.Map.{lookup}
@@ -9,7 +10,7 @@ use Rattle.std.proofs.lemmas.Slice.Eq.{bytes_eq-Decides}
 use Rattle.asm_lines.specs.declared.line.Line.{Line}
 use Rattle.asm_lines.specs.declared.line.Line.TheVariants as line
 use Rattle.asm_bodies.specs.Needs.{line_length}
-use Rattle.asm_bodies.specs.Bodies.{Mark, line_marks, marks_from, marks_of, mark_of, or_else}
+use Rattle.asm_bodies.specs.Bodies.{Mark, line_marks, marks_from, marks_of, mark_of}
 use Rattle.asm_bodies.proofs.LineByLine.{at_front}
 
 abbrev pub mark : List ℕ → ℕ → Mark
@@ -29,28 +30,26 @@ unfolding mark_of
 mark_found [] name = refl
 mark_found (e ∷ es) name = ap (λ o. if bytes_eq name e.0 then Some e.1 else o) (mark_found es name)
 
-mark_append : (marks more : List Mark) (name : List ℕ) → mark_of (marks ++ more) name ≡ or_else (mark_of marks name) (mark_of more name)
-unfolding mark_of or_else
+mark_append : (marks more : List Mark) (name : List ℕ) → mark_of (marks ++ more) name ≡ option_or (mark_of marks name) (mark_of more name)
+unfolding mark_of
 mark_append [] more name = refl
 mark_append (m ∷ marks) more name =
-    elim (bytes_eq name m.name) as (λ b. (if b then Some m.pc else mark_of (marks ++ more) name) ≡ or_else (if b then Some m.pc else mark_of marks name) (mark_of more name)) [
+    elim (bytes_eq name m.name) as (λ b. (if b then Some m.pc else mark_of (marks ++ more) name) ≡ option_or (if b then Some m.pc else mark_of marks name) (mark_of more name)) [
       | true ↦ refl
       | false ↦ mark_append marks more name
     ]
 
 pub alike_append : (marks others more : List Mark) → Alike marks others → Alike (marks ++ more) (others ++ more)
 alike_append marks others more h name =
-    mark_append marks more name ∙ (ap (λ o. or_else o (mark_of more name)) (h name) ∙ sym (mark_append others more name))
+    mark_append marks more name ∙ (ap (λ o. option_or o (mark_of more name)) (h name) ∙ sym (mark_append others more name))
 
 -- ---- one label more
 
-or_none : (o : Option ℕ) → o ≡ or_else o None
-unfolding or_else
+or_none : (o : Option ℕ) → o ≡ option_or o None
 or_none None = refl
 or_none (Some n) = refl
 
-or_known : (o p : Option ℕ) → is_some o ≡ true → o ≡ or_else o p
-unfolding or_else
+or_known : (o p : Option ℕ) → is_some o ≡ true → o ≡ option_or o p
 or_known None p h = absurd (cc)
 or_known (Some n) p h = refl
 
@@ -61,12 +60,12 @@ one_mark m name = refl
 -- a label whose name is there already is not needed
 pub known_stays : (marks : List Mark) (m : Mark) → is_some (mark_of marks m.name) ≡ true → Alike marks (marks ++ m ∷ [])
 known_stays marks m known name =
-    (elim (bytes_eq name m.name) as (λ b. bytes_eq name m.name ≡ b → mark_of marks name ≡ or_else (mark_of marks name) (if b then Some m.pc else None)) [
+    (elim (bytes_eq name m.name) as (λ b. bytes_eq name m.name ≡ b → mark_of marks name ≡ option_or (mark_of marks name) (if b then Some m.pc else None)) [
       | true ↦ λ e. let same : name ≡ m.name = (bytes_eq-Decides name m.name).0 e in
           or_known (mark_of marks name) (Some m.pc) (ap (λ n. is_some (mark_of marks n)) same ∙ known)
       | false ↦ λ e. or_none (mark_of marks name)
     ] refl)
-    ∙ (ap (λ o. or_else (mark_of marks name) o) (sym (one_mark m name)) ∙ sym (mark_append marks (m ∷ []) name))
+    ∙ (ap (λ o. option_or (mark_of marks name) o) (sym (one_mark m name)) ∙ sym (mark_append marks (m ∷ []) name))
 
 new_goes_last : (es : List (List ℕ × ℕ)) (name : List ℕ) (pc : ℕ) → is_some (lookup (bytes_eq name) es) ≡ false
     → insert_entry bytes_eq es name pc ≡ es ++ (name, pc) ∷ []

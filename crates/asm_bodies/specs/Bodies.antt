@@ -1,4 +1,5 @@
 -- The bodies of methods: which lines are in one, where its labels stand, and which of its branches are too far.
+use Rattle.std.specs.Option.{option_or}
 use Rattle.std.specs.Prelude.{ℕ, suc, ◌+◌, Bool, true, false, ◌&&◌, not, if◌then◌else◌, List, [], ◌∷◌, ◌++◌, Option, Some, None, option_map, nat_le}
 use Rattle.std.specs.List.{list_any}
 use Rattle.std.specs.Str.{bytes_eq}
@@ -93,11 +94,6 @@ unfoldable pub first_far_from : List Mark → ℕ → List Line → Option ℕ
 first_far_from marks pc [] = None
 first_far_from marks pc (l ∷ lines) = if is_far marks pc l then Some 0 else option_map suc (first_far_from marks (pc + line_length pc l) lines)
 
--- the first of two places where there is one
-unfoldable pub or_else : Option ℕ → Option ℕ → Option ℕ
-or_else None other = other
-or_else (Some n) other = Some n
-
 -- the place of the first line of a body that is too far from one of its labels
 unfoldable pub first_far_in : List Line → Option ℕ
 first_far_in body = first_far_from (marks_of body) 0 body
@@ -106,9 +102,9 @@ first_far_in body = first_far_from (marks_of body) 0 body
 unfoldable pub first_far : List Line → Option ℕ
 first_far [] = None
 first_far (l ∷ lines) =
-    option_map suc (if is_method l then or_else (first_far_in (body_of lines)) (first_far lines) else first_far lines)
+    option_map suc (if is_method l then option_or (first_far_in (body_of lines)) (first_far lines) else first_far lines)
 
 -- what a computed row opens
 unfoldable pub opened_bodies : Unit {0}
-unfolding goes_on open_body ends body_of is_label has_label pc_behind line_marks marks_from marks_of mark_of is_near is_far_operand is_far first_far_from or_else first_far_in first_far
+unfolding goes_on open_body ends body_of is_label has_label pc_behind line_marks marks_from marks_of mark_of is_near is_far_operand is_far first_far_from first_far_in first_far
 opened_bodies = tt

@@ -1,4 +1,5 @@
 -- The code of a body is spelled by its bytes.
+use Rattle.std.specs.Option.{option_or}
 use Rattle.std.proofs.Common.{◌≡◌, ◌∙◌, refl, sym, ap, subst, ℕ, suc, ◌+◌, ◌-◌, ◌^◌, ◌<◌, List, [], ◌∷◌, ◌++◌, Bool, true, false, Some, None, Option, Ok, length, length-append, append-nil, reverse, arith}
 use Rattle.std.specs.Prelude.{not, ◌||◌, nat_lt, option_map, if◌then◌else◌, flat_map, unwrap_or}
 use Rattle.std.specs.List.{list_any, list_all, AllByRecursion}
@@ -16,7 +17,7 @@ use Rattle.asm_lines.specs.declared.line.Line.TheVariants as line
 use Rattle.asm_lines.specs.declared.line.Member.{Member}
 use Rattle.asm_lines.specs.declared.line.Operand.{Operand}
 use Rattle.asm_lines.specs.declared.line.Operand.TheVariants as operand
-use Rattle.asm_bodies.specs.Bodies.{Mark, body_of, ends, has_label, is_label, marks_of, marks_from, line_marks, mark_of, is_near, is_far_operand, is_far, first_far_from, first_far_in, first_far, or_else}
+use Rattle.asm_bodies.specs.Bodies.{Mark, body_of, ends, has_label, is_label, marks_of, marks_from, line_marks, mark_of, is_near, is_far_operand, is_far, first_far_from, first_far_in, first_far}
 use Rattle.asm_bodies.specs.Lines.{is_method}
 use Rattle.asm_bodies.specs.Needs.{pool_of, line_length, instruction_length}
 use Rattle.asm_bytes.specs.Files.{instruction_bytes, line_bytes, code_from, pc_of, file_bytes}
@@ -164,14 +165,12 @@ no_later : (o : Option ℕ) → option_map suc o ≡ None → o ≡ None
 no_later None e = refl
 no_later (Some n) e = absurd (cc)
 
-neither_far : (b : Bool) (o p : Option ℕ) → (if b then or_else o p else p) ≡ None → p ≡ None
-unfolding or_else
+neither_far : (b : Bool) (o p : Option ℕ) → (if b then option_or o p else p) ≡ None → p ≡ None
 neither_far true None p e = e
 neither_far true (Some n) p e = absurd (cc)
 neither_far false o p e = e
 
-first_near : (o p : Option ℕ) → or_else o p ≡ None → o ≡ None
-unfolding or_else
+first_near : (o p : Option ℕ) → option_or o p ≡ None → o ≡ None
 first_near None p e = refl
 first_near (Some n) p e = absurd (cc)
 

@@ -14,7 +14,6 @@ use Rattle.program_model.specs.Limits.{domain_limit, service_limit, thread_limit
 use Rattle.jx_base.specs.Histories.{Past, is_own, count_where, nth_entry}
 use Rattle.jx_model.specs.Domains.{is_birth, makes_domain, domains_made, template_named, is_live, is_made}
 use Rattle.jx_model.specs.Portals.{is_export, export_of, interface_of, exported_interface, services_made}
-use Rattle.jx_base.specs.Basics.{and_then}
 use Rattle.jx_model.specs.Threads.{service_threads, new_threads, new_threads_of}
 use Rattle.jx_model.specs.Permits.{acting_thread}
 use Rattle.jx_model.specs.Granules.{first_fit, heap_granules}
@@ -24,6 +23,7 @@ use Rattle.jx_model.specs.Legal.{IsNext, IsAdmittedPast}
 use Rattle.jx_base.proofs.BasicLaws.{both}
 use Rattle.jx_base.proofs.NthEntries.{count_new, count_same, nth_passes}
 use Rattle.jx_model.proofs.Acting.{acting_cases, domain_cases, acting_within, running_live}
+use Rattle.std.specs.Option.{option_and_then}
 
 -- ---- domains
 
@@ -101,10 +101,10 @@ services_few s (e ∷ past) h = services_step s past e (is_export e) h.0 refl (s
 
 -- a service with an interface is one of those made
 pub interface_within : (past : Past) (k : ℕ) (c : ClassId) → interface_of past k ≡ Some c → k ≤ services_made past
-unfolding interface_of export_of and_then
+unfolding interface_of export_of
 interface_within past k c h = by (nth_entry is_export past k) refl h
   where
-    by : (o : Option Entry) → nth_entry is_export past k ≡ o → and_then o (λ x. exported_interface x.act x.reply) ≡ Some c → k ≤ services_made past
+    by : (o : Option Entry) → nth_entry is_export past k ≡ o → option_and_then (λ x. exported_interface x.act x.reply) o ≡ Some c → k ≤ services_made past
     by None q h = cc
     by (Some x) q h = (nth_passes is_export past k x q).2
 

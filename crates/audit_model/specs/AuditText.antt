@@ -8,7 +8,7 @@ use Rattle.jx_base.specs.declared.act.Reason.{Reason}
 use Rattle.jx_base.specs.declared.act.Entry.{Entry}
 use Rattle.jx_base.specs.declared.act.History.{History}
 use Rattle.jx_base.specs.declared.program.System.{System}
-use Rattle.jx_base.specs.Basics.{or_zero, up_to}
+use Rattle.jx_base.specs.Basics.{up_to}
 use Rattle.program_model.specs.Limits.{granule_limit, journal_limit}
 use Rattle.jx_base.specs.Histories.{Past, past_of}
 use Rattle.jx_model.specs.Journal.{words_of}
@@ -17,6 +17,7 @@ use Rattle.jx_model.specs.Calls.{calls_made, is_queued, is_being_served}
 use Rattle.jx_model.specs.Granules.{used_granules}
 use Rattle.jx_base.specs.Texts.{line, quoted}
 use Rattle.audit_model.specs.Audit.{Bytes, template_text, reason_words, act_word, act_operands, reply_word, reply_operands}
+use Rattle.std.specs.Option.{unwrap_or}
 
 -- ---- the entries
 
@@ -55,7 +56,7 @@ standing_words (Some r) = codes "ended" ∷ reason_words r
 unfoldable pub domain_line : System → Past → ℕ → Bytes
 domain_line s past d =
     line (
-    (decimal d ∷ template_text s (or_zero (template_of s past d)) ∷ codes "by" ∷ decimal (or_zero (creator_of past d)) ∷ [])
+    (decimal d ∷ template_text s (unwrap_or (template_of s past d) 0) ∷ codes "by" ∷ decimal (unwrap_or (creator_of past d) 0) ∷ [])
     ++ standing_words (end_reason past d)
     )
 

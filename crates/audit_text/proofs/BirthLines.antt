@@ -6,7 +6,7 @@ use Rattle.std.proofs.lemmas.Grind.{reverse_onto, flat_map-append}
 use Rattle.jx_base.specs.declared.act.Entry.{Entry}
 use Rattle.jx_base.specs.declared.act.Reason.{Reason}
 use Rattle.jx_base.specs.declared.program.System.{System}
-use Rattle.jx_base.specs.Basics.{up_to, or_zero, and_then, mapped}
+use Rattle.jx_base.specs.Basics.{up_to}
 use Rattle.jx_base.specs.Histories.{Past}
 use Rattle.jx_base.specs.Texts.{after_space, spaced, line}
 use Rattle.audit_model.specs.Audit.{template_text}
@@ -16,13 +16,14 @@ use Rattle.jx_base.proofs.NthEntries.{count_new, count_same}
 use Rattle.audit_text.specs.Rendering.{IsBuiltEntry, made_template, domain_text, standing_text, whole_line}
 use Rattle.audit_text.proofs.Births.{each_birth, each_birth-new, each_birth-same, same_up_to}
 use Rattle.audit_text.proofs.Built.{birth_created, named_template-made}
+use Rattle.std.specs.Option.{option_and_then, option_map, unwrap_or}
 
 -- what f gives of the number, the template and the creator of each domain that was made, by its birth
 unfoldable pub of_birth : {X : Type 0} → (ℕ → ℕ → ℕ → List X) → System → ℕ → Option Entry → List X
-of_birth f s d birth = f d (or_zero (and_then birth (λ e. named_template s e.act))) (or_zero (mapped (λ e. e.domain.0) birth))
+of_birth f s d birth = f d (unwrap_or (option_and_then (λ e. named_template s e.act) birth) 0) (unwrap_or (option_map (λ e. e.domain.0) birth) 0)
 
 of_birth-made_template : {X : Type 0} (f : ℕ → ℕ → ℕ → List X) (s : System) (d t : ℕ) (e : Entry) → made_template e.act e.reply ≡ Some t → of_birth f s d (Some e) ≡ f d t e.domain.0
-unfolding of_birth and_then mapped or_zero
+unfolding of_birth
 of_birth-made_template f s d t e is = rw (named_template-made s e t is) refl
 
 -- what f gives of a domain that is made after n others, where one is, and what follows after so many
@@ -66,7 +67,7 @@ module _ {X : Type 0} (f : ℕ → ℕ → ℕ → List X) (g : ℕ → Option E
       ∙ ap (each_birth g) (sym (turned e entries past))
 
   pub born-births : (entries : List Entry) → AllByRecursion IsBuiltEntry entries → born f 0 entries ≡ each_birth g (reverse entries)
-  unfolding each_birth up_to Rattle.jx_model.specs.Histories.count_where
+  unfolding each_birth up_to Rattle.jx_base.specs.Histories.count_where
   born-births entries h = born_after entries [] h ∙ ap (each_birth g) (append-nil (reverse entries))
 
 module _ {X : Type 0} (f : ℕ → ℕ → ℕ → List X) where
@@ -106,7 +107,7 @@ joined_words first front end tail = simp (flat_map-append, append_assoc) refl
 domain_line-birth : (s : System) (past : Past) (d : ℕ) → domain_line s past d ≡ of_birth (line_after s past) s d (birth_of past d)
 unfolding domain_line of_birth line_after whole_line domain_text standing_text template_of creator_of line spaced
 domain_line-birth s past d =
-    joined_words (decimal d) (template_text s (or_zero (template_of s past d)) ∷ codes "by" ∷ decimal (or_zero (creator_of past d)) ∷ []) (standing_words (end_reason past d)) (codes "\n")
+    joined_words (decimal d) (template_text s (unwrap_or (template_of s past d) 0) ∷ codes "by" ∷ decimal (unwrap_or (creator_of past d) 0) ∷ []) (standing_words (end_reason past d)) (codes "\n")
 
 pub domain_lines-born : (s : System) (entries : List Entry) → AllByRecursion IsBuiltEntry entries →
     born (line_after s (reverse entries)) 0 entries ≡ flat_map (domain_line s (reverse entries)) (up_to (domains_made (reverse entries)))

@@ -25,7 +25,7 @@ unfoldable pub each_birth : {X : Type 0} → (ℕ → Option Entry → List X) �
 each_birth f past = flat_map (λ d. f d (birth_of past d)) (up_to (domains_made past))
 
 pub each_birth-none : {X : Type 0} (f : ℕ → Option Entry → List X) → each_birth f [] ≡ []
-unfolding each_birth up_to Rattle.jx_model.specs.Histories.count_where
+unfolding each_birth up_to Rattle.jx_base.specs.Histories.count_where
 each_birth-none f = refl
 
 -- one birth more

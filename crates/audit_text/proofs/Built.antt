@@ -161,7 +161,7 @@ unfolding is_call
 is_call-false e h = rw (no_call e.act h.act) refl
 
 pub no_calls : (past : Past) → AllByRecursion IsBuiltEntry past → calls_made past ≡ 0
-unfolding Rattle.jx_model.specs.Histories.count_where
+unfolding Rattle.jx_base.specs.Histories.count_where
 no_calls [] h = refl
 no_calls (e ∷ past) h = count_same is_call e past (is_call-false e h.0) ∙ no_calls past h.1
 
@@ -183,7 +183,7 @@ unfolding is_allocation
 is_allocation-false e h = no_extent e.act e.reply h.act
 
 pub no_extents : (past : Past) → AllByRecursion IsBuiltEntry past → extents_made past ≡ 0
-unfolding Rattle.jx_model.specs.Histories.count_where
+unfolding Rattle.jx_base.specs.Histories.count_where
 no_extents [] h = refl
 no_extents (e ∷ past) h = count_same is_allocation e past (is_allocation-false e h.0) ∙ no_extents past h.1
 

@@ -12,7 +12,7 @@ use Rattle.jx_base.specs.declared.act.Reason.{Reason}
 use Rattle.jx_base.specs.declared.program.System.{System}
 use Rattle.jx_base.specs.declared.program.Template.{Template}
 use Rattle.std.proofs.lemmas.Option.{slice_get_read, slice_get_past}
-use Rattle.jx_base.specs.Basics.{up_to, or_zero, and_then, mapped, parts_of}
+use Rattle.jx_base.specs.Basics.{up_to, parts_of}
 use Rattle.program_model.specs.Limits.{domain_limit, granule_cells}
 use Rattle.jx_base.specs.Histories.{Past}
 use Rattle.jx_model.specs.Domains.{domains_made, birth_of, is_birth, makes_domain, is_live, is_made, end_reason, named_template, template_of, heap_place_of}
@@ -26,6 +26,7 @@ use Rattle.audit_text.proofs.Births.{each_birth, same_up_to}
 use Rattle.audit_text.proofs.BirthLines.{Agree, born, born-births}
 use Rattle.audit_text.proofs.Built.{birth_created, named_template-made, no_extents, all_reverse}
 use Rattle.audit_text.proofs.Sums.{entry_sum, entry_sum-reverse}
+use Rattle.std.specs.Option.{option_and_then, option_map, unwrap_or}
 
 pub total-append : (xs ys : List ℕ) → total (xs ++ ys) ≡ total xs + total ys
 unfolding total
@@ -38,10 +39,10 @@ granules_after s past d t creator = where_live (end_reason past d) (heap_granule
 
 -- the same by the domain's birth
 unfoldable pub birth_granules : System → Past → ℕ → Option Entry → List ℕ
-birth_granules s past d birth = where_live (end_reason past d) (or_zero (mapped (heap_granules s) (and_then birth (λ e. named_template s e.act))))
+birth_granules s past d birth = where_live (end_reason past d) (unwrap_or (option_map (heap_granules s) (option_and_then (λ e. named_template s e.act) birth)) 0)
 
 granules_agree : (s : System) (past : Past) → Agree (granules_after s past) (birth_granules s past)
-unfolding granules_after birth_granules mapped and_then or_zero
+unfolding granules_after birth_granules
 granules_agree s past d t e is = rw (named_template-made s e t is) refl
 
 -- the granules of a run, where it is in use
@@ -129,7 +130,7 @@ made_step s past e false next h none few = omega (arith, count_same is_birth e p
 
 -- an admitted past has at most 64 domains
 pub made_few : (s : System) (past : Past) → IsAdmittedPast s past → AllByRecursion IsBuiltEntry past → domains_made past ≤ 64
-unfolding Rattle.jx_model.specs.Histories.count_where
+unfolding Rattle.jx_base.specs.Histories.count_where
 made_few s [] admitted h = omega arith
 made_few s (e ∷ past) admitted h = made_step s past e (is_birth e) admitted.0 h.0 refl (made_few s past admitted.1 h.1)
 
@@ -152,7 +153,7 @@ births_step e past (Some t) h is =
     omega (arith, count_new is_birth e past one)
 
 births-sum : (past : Past) → AllByRecursion IsBuiltEntry past → domains_made past ≡ entry_sum birth_count past
-unfolding entry_sum birth_count Rattle.jx_model.specs.Histories.count_where
+unfolding entry_sum birth_count Rattle.jx_base.specs.Histories.count_where
 births-sum [] h = refl
 births-sum (e ∷ past) h = births_step e past (made_template e.act e.reply) h.0 refl ∙ ap (λ n. one_made (made_template e.act e.reply) + n) (births-sum past h.1)
 
@@ -171,9 +172,9 @@ unfolding birth_count one_made
 birth_count-None e is = rw is refl
 
 pub heap_granules-found : (s : System) (t : ℕ) (x : Template) → t < length s.plan.templates → x ≡ get_or s.plan.templates t x → heap_granules s t ≡ (x.heap + 7) / 8
-unfolding heap_granules heap_of_template parts_of granule_cells or_zero mapped
+unfolding heap_granules heap_of_template parts_of granule_cells
 heap_granules-found s t x lt is = rw (slice_get_read s.plan.templates (length s.plan.templates) t x refl lt is) refl
 
 pub heap_granules-none : (s : System) (t : ℕ) → length s.plan.templates ≤ t → heap_granules s t ≡ 0
-unfolding heap_granules heap_of_template parts_of granule_cells or_zero mapped
+unfolding heap_granules heap_of_template parts_of granule_cells
 heap_granules-none s t le = rw (slice_get_past s.plan.templates t le) refl

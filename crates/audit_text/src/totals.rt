@@ -21,7 +21,7 @@ fn wide(n: u32) -> u64
 }
 
 /// The granules of the heap of a domain of the template.
-#[tactic(auto, unfolding(jx_model::specs::Granules::heap_granules, jx_model::specs::Granules::heap_of_template, jx_base::specs::Basics::parts_of, jx_base::specs::Basics::or_zero, jx_base::specs::Basics::mapped, program_model::specs::Limits::granule_cells))]
+#[tactic(auto, unfolding(jx_model::specs::Granules::heap_granules, jx_model::specs::Granules::heap_of_template, jx_base::specs::Basics::parts_of, program_model::specs::Limits::granule_cells))]
 fn heap_granules(system: &System, template: u32) -> u64
     ensures granules { result ≡ heap_granules system.now template }
     ensures small { result ≤ 2 ^ 29 }

@@ -1,4 +1,5 @@
 -- How far places lie: within the lines, which are no more than the bytes of their text.
+use Rattle.std.specs.Option.{option_or}
 use Rattle.std.proofs.Common.{◌≡◌, ◌∙◌, sym, subst, ℕ, ◌+◌, ◌≤◌, true, false, List, [], ◌∷◌, Option, Some, None, length, arith}
 use Rattle.std.specs.Prelude.{suc, ◌==◌, if◌then◌else◌, option_map}
 use Rattle.std.proofs.lemmas.List.{length-map}
@@ -6,7 +7,7 @@ use Rattle.asm_words.specs.Words.{lines_of, begun, feed}
 use Rattle.asm_lines.specs.Lines.{meaning, meanings}
 use Rattle.asm_lines.specs.declared.line.AsmKind.{AsmKind}
 use Rattle.asm_lines.specs.declared.line.Line.{Line}
-use Rattle.asm_bodies.specs.Bodies.{Mark, first_far, first_far_in, first_far_from, is_far, or_else, body_of, ends, marks_of}
+use Rattle.asm_bodies.specs.Bodies.{Mark, first_far, first_far_in, first_far_from, is_far, body_of, ends, marks_of}
 use Rattle.asm_bodies.specs.Lines.{is_method}
 use Rattle.asm_bodies.specs.Needs.{line_length}
 use Rattle.asm_checks.specs.Faults.{first_fault, fault_or, kind_at, end_fault}
@@ -63,8 +64,8 @@ unfolding AtMost
 looser n m None le h = tt
 looser n m (Some i) le h = omega (arith, h)
 
-either_way : (n : ℕ) (a b : Option ℕ) → AtMost n a → AtMost n b → AtMost n (or_else a b)
-unfolding or_else AtMost
+either_way : (n : ℕ) (a b : Option ℕ) → AtMost n a → AtMost n b → AtMost n (option_or a b)
+unfolding AtMost
 either_way n None b h k = k
 either_way n (Some i) b h k = h
 
@@ -96,8 +97,8 @@ pub far_within : (lines : List Line) → AtMost (length lines) (first_far lines)
 unfolding first_far AtMost
 far_within [] = tt
 far_within (l ∷ lines) =
-    one_more (length lines) (if is_method l then or_else (first_far_in (body_of lines)) (first_far lines) else first_far lines)
-    (elim (is_method l) as (λ b. AtMost (length lines) (if b then or_else (first_far_in (body_of lines)) (first_far lines) else first_far lines)) [
+    one_more (length lines) (if is_method l then option_or (first_far_in (body_of lines)) (first_far lines) else first_far lines)
+    (elim (is_method l) as (λ b. AtMost (length lines) (if b then option_or (first_far_in (body_of lines)) (first_far lines) else first_far lines)) [
       | true ↦ either_way (length lines) (first_far_in (body_of lines)) (first_far lines) (far_in_within lines) (far_within lines)
       | false ↦ far_within lines
     ])

@@ -10,7 +10,7 @@ use Rattle.jx_base.specs.declared.act.Entry.{Entry}
 use Rattle.jx_base.specs.declared.states.DomainState.{DomainState}
 use Rattle.jx_base.specs.declared.states.ThreadState.{ThreadState}
 use Rattle.jx_base.specs.declared.program.System.{System}
-use Rattle.jx_base.specs.Basics.{up_to, numbered, mapped, and_then, passes, is_number, or_zero}
+use Rattle.jx_base.specs.Basics.{up_to, numbered, passes, is_number}
 use Rattle.jx_base.specs.Histories.{Past, count_where, nth_entry}
 use Rattle.jx_model.specs.Journal.{words_of, entry_words, is_full}
 use Rattle.jx_model.specs.Domains.{is_live}
@@ -25,6 +25,7 @@ use Rattle.jx_base.proofs.NthEntries.{nth_passes, nth_there, nth_none}
 use Rattle.history_rows.proofs.Rows.{get_range, some_of}
 use Rattle.history_rows.proofs.CallActs.{call_service_there}
 use Rattle.history_rows.proofs.Permission.{lives_in, thread_in, running_in, resumable_in, head_in, lives_by_rows, thread_by_rows, running_by_rows, resumable_by_rows, head_by_rows, state_by_row, numbered_row, no_row, unmade_entry}
+use Rattle.std.specs.Option.{option_and_then, option_map, unwrap_or}
 
 -- ---- counters
 
@@ -59,28 +60,27 @@ pub beyond : (x y : ℕ) → nat_le x y ≡ false → y < x
 beyond x y q = grind (arith, nat_tests)
 
 no_state : (past : Past) (d t : ℕ) → length (service_threads past d) < t → thread_state past d t ≡ None
-unfolding thread_state mapped
+unfolding thread_state
 no_state past d zero l = absurd (omega (arith, l))
-no_state past d (suc t) l = ap (mapped _) (get_none (service_threads past d) t (omega (arith, l)))
+no_state past d (suc t) l = ap (option_map _) (get_none (service_threads past d) t (omega (arith, l)))
 
 -- the rows say what a thread does, where the domain has it
-pub state_by_rows : (past : Past) (d t : ℕ) → thread_state past d t ≡ mapped (λ row. row.state) (slice_get (thread_rows past d) t)
-unfolding thread_rows threads_of mapped
+pub state_by_rows : (past : Past) (d t : ℕ) → thread_state past d t ≡ option_map (λ row. row.state) (slice_get (thread_rows past d) t)
+unfolding thread_rows threads_of
 state_by_rows past d t = by (nat_le t (length (service_threads past d))) refl
   where
-    by : (b : Bool) → nat_le t (length (service_threads past d)) ≡ b → thread_state past d t ≡ mapped (λ row. row.state) (slice_get (map (thread_row past d) (range_with_len 0 (length (service_threads past d) + 1))) t)
+    by : (b : Bool) → nat_le t (length (service_threads past d)) ≡ b → thread_state past d t ≡ option_map (λ row. row.state) (slice_get (map (thread_row past d) (range_with_len 0 (length (service_threads past d) + 1))) t)
     by true q =
         let l = at_most t (length (service_threads past d)) q in
         state_by_row past d t l
-        ∙ sym (ap (mapped (λ (row : ThreadRow). row.state)) (get_range (thread_row past d) 0 (length (service_threads past d) + 1) t (omega (arith, l))) ∙ ap (λ (j : ℕ). Some (thread_row past d j).state) (omega arith))
+        ∙ sym (ap (option_map (λ (row : ThreadRow). row.state)) (get_range (thread_row past d) 0 (length (service_threads past d) + 1) t (omega (arith, l))) ∙ ap (λ (j : ℕ). Some (thread_row past d j).state) (omega arith))
     by false q =
         let l = beyond t (length (service_threads past d)) q in
         no_state past d t l
-        ∙ sym (ap (mapped (λ (row : ThreadRow). row.state)) (get_none (map (thread_row past d) (range_with_len 0 (length (service_threads past d) + 1))) t (omega (arith, l, length-map-range_with_len (thread_row past d) 0 (length (service_threads past d) + 1)))))
+        ∙ sym (ap (option_map (λ (row : ThreadRow). row.state)) (get_none (map (thread_row past d) (range_with_len 0 (length (service_threads past d) + 1))) t (omega (arith, l, length-map-range_with_len (thread_row past d) 0 (length (service_threads past d) + 1)))))
 
 -- what a row gives by its number, where what isn't made gives nothing
-pub by_number : {A B : Type 0} (f : ℕ → A) (g : A → B) (n c : ℕ) (o : Option B) → ((1 ≤ c) → c ≤ n → o ≡ Some (g (f c))) → ((c ≡ 0) ⊎ (n < c) → o ≡ None) → o ≡ mapped g (numbered (map f (up_to n)) c)
-unfolding mapped
+pub by_number : {A B : Type 0} (f : ℕ → A) (g : A → B) (n c : ℕ) (o : Option B) → ((1 ≤ c) → c ≤ n → o ≡ Some (g (f c))) → ((c ≡ 0) ⊎ (n < c) → o ≡ None) → o ≡ option_map g (numbered (map f (up_to n)) c)
 by_number f g n c o there none = by (nat_lt 0 c) refl (nat_le c n) refl
   where
     some : (c : ℕ) → nat_lt 0 c ≡ true → 1 ≤ c
@@ -89,17 +89,17 @@ by_number f g n c o there none = by (nat_lt 0 c) refl (nat_le c n) refl
     zeroth : (c : ℕ) → nat_lt 0 c ≡ false → c ≡ 0
     zeroth c q = grind (arith, nat_tests)
 
-    by : (x : Bool) → nat_lt 0 c ≡ x → (y : Bool) → nat_le c n ≡ y → o ≡ mapped g (numbered (map f (up_to n)) c)
-    by false q y r = none (inl (zeroth c q)) ∙ sym (ap (mapped g) (no_row f n c (inl (zeroth c q))))
-    by true q false r = none (inr (beyond c n r)) ∙ sym (ap (mapped g) (no_row f n c (inr (beyond c n r))))
-    by true q true r = there (some c q) (at_most c n r) ∙ sym (ap (mapped g) (numbered_row f n c (some c q) (at_most c n r)))
+    by : (x : Bool) → nat_lt 0 c ≡ x → (y : Bool) → nat_le c n ≡ y → o ≡ option_map g (numbered (map f (up_to n)) c)
+    by false q y r = none (inl (zeroth c q)) ∙ sym (ap (option_map g) (no_row f n c (inl (zeroth c q))))
+    by true q false r = none (inr (beyond c n r)) ∙ sym (ap (option_map g) (no_row f n c (inr (beyond c n r))))
+    by true q true r = there (some c q) (at_most c n r) ∙ sym (ap (option_map g) (numbered_row f n c (some c q) (at_most c n r)))
 
 -- the rows say a call's service
-pub service_by_rows : (past : Past) (c : ℕ) → service_of_call past c ≡ mapped (λ row. row.service) (numbered (call_rows past) c)
-unfolding call_rows call_row service_of_call asked_of call_entry mapped and_then
+pub service_by_rows : (past : Past) (c : ℕ) → service_of_call past c ≡ option_map (λ row. row.service) (numbered (call_rows past) c)
+unfolding call_rows call_row service_of_call asked_of call_entry
 service_by_rows past c =
     by_number (call_row past) (λ (row : CallRow). row.service) (calls_made past) c (service_of_call past c) (λ l u. call_service_there past c l u)
-    (λ h. ap (λ (o : Option Entry). mapped (λ a. a.service.0) (and_then o (λ e. asked_by e.act))) (unmade_entry past c h))
+    (λ h. ap (λ (o : Option Entry). option_map (λ a. a.service.0) (option_and_then (λ e. asked_by e.act) o)) (unmade_entry past c h))
 
 -- a service that isn't made has no export
 pub no_export : (past : Past) (k : ℕ) → (k ≡ 0) ⊎ (services_made past < k) → export_of past k ≡ None
@@ -112,21 +112,21 @@ no_export past k (inl q) = by (nth_entry is_export past k) refl
     by (Some x) z = absurd (omega (arith, (nth_passes is_export past k x z).1, q))
 
 -- the rows say a service's owner
-pub owner_by_rows : (past : Past) (k : ℕ) → owner_of past k ≡ mapped (λ row. row.owner) (numbered (service_rows past) k)
-unfolding service_rows service_row owner_of mapped or_zero export_of
+pub owner_by_rows : (past : Past) (k : ℕ) → owner_of past k ≡ option_map (λ row. row.owner) (numbered (service_rows past) k)
+unfolding service_rows service_row owner_of export_of
 owner_by_rows past k =
     by_number (service_row past) (λ (row : ServiceRow). row.owner) (services_made past) k (owner_of past k) (λ l u. there (some_of (nth_entry is_export past k) (nth_there is_export past k l u)))
-    (λ h. ap (mapped (λ (e : Entry). e.domain.0)) (no_export past k h))
+    (λ h. ap (option_map (λ (e : Entry). e.domain.0)) (no_export past k h))
   where
-    there : (x : Entry) × (nth_entry is_export past k ≡ Some x) → owner_of past k ≡ Some (or_zero (owner_of past k))
-    there x = let q : mapped (λ (e : Entry). e.domain.0) (nth_entry is_export past k) ≡ Some x.0.domain.0 = ap (mapped (λ (e : Entry). e.domain.0)) x.1 in q ∙ ap (λ (o : Option ℕ). Some (or_zero o)) (sym q)
+    there : (x : Entry) × (nth_entry is_export past k ≡ Some x) → owner_of past k ≡ Some (unwrap_or (owner_of past k) 0)
+    there x = let q : option_map (λ (e : Entry). e.domain.0) (nth_entry is_export past k) ≡ Some x.0.domain.0 = ap (option_map (λ (e : Entry). e.domain.0)) x.1 in q ∙ ap (λ (o : Option ℕ). Some (unwrap_or o 0)) (sym q)
 
 -- ---- the thread of an act
 
 -- whether a running thread may perform the act, by the rows
 abbrev pub performs_by : List ThreadRow → ℕ → Act → Bool
-performs_by rows t (act.Return c p) = passes (is_serving c.0) (mapped (λ row. row.state) (slice_get rows t))
-performs_by rows t (act.Throw c p) = passes (is_serving c.0) (mapped (λ row. row.state) (slice_get rows t))
+performs_by rows t (act.Return c p) = passes (is_serving c.0) (option_map (λ row. row.state) (slice_get rows t))
+performs_by rows t (act.Throw c p) = passes (is_serving c.0) (option_map (λ row. row.state) (slice_get rows t))
 performs_by rows t (act.EndThread c) = t == 0
 performs_by rows t a = not (is_zero_act a) && not (is_choice a)
 
@@ -139,23 +139,22 @@ performs_by_rows past d t _ = refl
 
 -- the service of a call, and its owner, by the rows
 abbrev pub service_in : List CallRow → ℕ → Option ℕ
-service_in calls c = mapped (λ row. row.service) (numbered calls c)
+service_in calls c = option_map (λ row. row.service) (numbered calls c)
 
 -- the owner of a service, by the rows
 abbrev pub owner_in : List ServiceRow → ℕ → Option ℕ
-owner_in services k = mapped (λ row. row.owner) (numbered services k)
+owner_in services k = option_map (λ row. row.owner) (numbered services k)
 
 -- the thread that a choice lets run, by the rows
 abbrev pub choice_thread_by : List DomainState → List ThreadRow → List ServiceRow → List CallRow → List ℕ → ℕ → Act → Option ℕ
 choice_thread_by domains threads services calls waiting d (act.Take c) =
-    if is_number (and_then (service_in calls c.0) (owner_in services)) d && is_number (and_then (service_in calls c.0) (head_in calls waiting)) c.0
-    then and_then (service_in calls c.0) (λ k. thread_in threads (is_idle_for k)) else None
+    if is_number (option_and_then (owner_in services) (service_in calls c.0)) d && is_number (option_and_then (head_in calls waiting) (service_in calls c.0)) c.0
+    then option_and_then (λ k. thread_in threads (is_idle_for k)) (service_in calls c.0) else None
 choice_thread_by domains threads services calls waiting d (act.Resume c) = if resumable_in domains calls c.0 then thread_in threads (is_waiting_for c.0) else None
-choice_thread_by domains threads services calls waiting d (act.Go t) = if passes is_yielded (mapped (λ row. row.state) (slice_get threads t.0)) then Some t.0 else None
+choice_thread_by domains threads services calls waiting d (act.Go t) = if passes is_yielded (option_map (λ row. row.state) (slice_get threads t.0)) then Some t.0 else None
 choice_thread_by domains threads services calls waiting d _ = None
 
-then_same : (o : Option ℕ) (f g : ℕ → Option ℕ) → ((k : ℕ) → f k ≡ g k) → and_then o f ≡ and_then o g
-unfolding and_then
+then_same : (o : Option ℕ) (f g : ℕ → Option ℕ) → ((k : ℕ) → f k ≡ g k) → option_and_then f o ≡ option_and_then g o
 then_same None f g h = refl
 then_same (Some k) f g h = h k
 
@@ -165,10 +164,10 @@ pub choice_thread_by_rows : (s : System) (past : Past) (d : ℕ) (a : Act) →
 unfolding choice_thread taking_thread is_head server_of resuming_thread going_thread idle_thread
 choice_thread_by_rows s past d (act.Take c) =
     ap3 (λ (x y z : Option ℕ). if is_number x d && is_number y c.0 then z else None)
-    (then_same (service_of_call past c.0) (owner_of past) (owner_in (service_rows past)) (owner_by_rows past) ∙ ap (λ (o : Option ℕ). and_then o (owner_in (service_rows past))) (service_by_rows past c.0))
-    (then_same (service_of_call past c.0) (queue_head past) (head_in (call_rows past) (waiting_calls past)) (head_by_rows past) ∙ ap (λ (o : Option ℕ). and_then o (head_in (call_rows past) (waiting_calls past))) (service_by_rows past c.0))
+    (then_same (service_of_call past c.0) (owner_of past) (owner_in (service_rows past)) (owner_by_rows past) ∙ ap (λ (o : Option ℕ). option_and_then (owner_in (service_rows past)) o) (service_by_rows past c.0))
+    (then_same (service_of_call past c.0) (queue_head past) (head_in (call_rows past) (waiting_calls past)) (head_by_rows past) ∙ ap (λ (o : Option ℕ). option_and_then (head_in (call_rows past) (waiting_calls past)) o) (service_by_rows past c.0))
     (then_same (service_of_call past c.0) (λ k. thread_where past d (is_idle_for k)) (λ k. thread_in (thread_rows past d) (is_idle_for k)) (λ k. thread_by_rows past d (is_idle_for k))
-    ∙ ap (λ (o : Option ℕ). and_then o (λ k. thread_in (thread_rows past d) (is_idle_for k))) (service_by_rows past c.0))
+    ∙ ap (λ (o : Option ℕ). option_and_then (λ k. thread_in (thread_rows past d) (is_idle_for k)) o) (service_by_rows past c.0))
 choice_thread_by_rows s past d (act.Resume c) = ap2 (λ (b : Bool) (o : Option ℕ). if b then o else None) (resumable_by_rows s past c.0) (thread_by_rows past d (is_waiting_for c.0))
 choice_thread_by_rows s past d (act.Go t) = ap (λ (o : Option ThreadState). if passes is_yielded o then Some t.0 else None) (state_by_rows past d t.0)
 choice_thread_by_rows s past d _ = refl

@@ -12,7 +12,7 @@ use Rattle.jx_base.specs.declared.ids.ServiceId.{ServiceId}
 use Rattle.jx_base.specs.declared.states.ThreadState.{ThreadState}
 use Rattle.jx_base.specs.declared.states.ThreadState.TheVariants as thread
 use Rattle.jx_base.specs.declared.program.System.{System}
-use Rattle.jx_base.specs.Basics.{passes, mapped}
+use Rattle.jx_base.specs.Basics.{passes}
 use Rattle.jx_base.specs.Histories.{Past, is_own}
 use Rattle.jx_model.specs.Threads.{service_threads, is_of_thread, served_call, served_after, thread_state, state_by_last, state_after, serving_state, last_of_thread, is_running_state}
 use Rattle.jx_model.specs.Permits.{is_choice, zero_may_now, domain_thread}
@@ -24,6 +24,7 @@ use Rattle.jx_base.proofs.BasicLaws.{ap2, both, eq_of}
 use Rattle.jx_model.proofs.Acting.{acting_cases}
 use Rattle.jx_model.proofs.OneThread.{serves_same, last_same, state_with}
 use Rattle.history_rows.proofs.ThreadActs.{runs_now}
+use Rattle.std.specs.Option.{option_map}
 
 -- whether an act makes its thread stop
 abbrev pub stops : Act → Reply → Bool
@@ -46,11 +47,11 @@ idle_last k (Some e) = idle_stops k e.act e.reply
 
 -- a service thread that serves nothing doesn't run
 pub unserving_waits : (past : Past) (d t : ℕ) → served_call past d (suc t) ≡ None → passes is_running_state (thread_state past d (suc t)) ≡ false
-unfolding thread_state passes mapped serving_state
+unfolding thread_state passes serving_state
 unserving_waits past d t h =
-    ap (λ (c : Option CallId). passes is_running_state (mapped (state_with c (last_of_thread past d (suc t))) (slice_get (service_threads past d) t))) h ∙ by (slice_get (service_threads past d) t)
+    ap (λ (c : Option CallId). passes is_running_state (option_map (state_with c (last_of_thread past d (suc t))) (slice_get (service_threads past d) t))) h ∙ by (slice_get (service_threads past d) t)
   where
-    by : (o : Option ServiceId) → passes is_running_state (mapped (state_with None (last_of_thread past d (suc t))) o) ≡ false
+    by : (o : Option ServiceId) → passes is_running_state (option_map (state_with None (last_of_thread past d (suc t))) o) ≡ false
     by None = refl
     by (Some k) = idle_last k (last_of_thread past d (suc t))
 
@@ -99,9 +100,9 @@ unstopped x _ _ h = refl
 
 -- a service thread that serves no call is idle
 pub idle_unless_serves : (s : System) (past : Past) (d t : ℕ) (k : ServiceId) → IsAdmittedPast s past → served_call past d (suc t) ≡ None → slice_get (service_threads past d) t ≡ Some k → thread_state past d (suc t) ≡ Some (thread.Idle k)
-unfolding thread_state mapped serving_state state_by_last
+unfolding thread_state serving_state state_by_last
 idle_unless_serves s past d t k a h g =
-    ap2 (λ (c : Option CallId) (o : Option ServiceId). mapped (state_with c (last_of_thread past d (suc t))) o) h g ∙ ap Some (by (last_of_thread past d (suc t)) refl)
+    ap2 (λ (c : Option CallId) (o : Option ServiceId). option_map (state_with c (last_of_thread past d (suc t))) o) h g ∙ ap Some (by (last_of_thread past d (suc t)) refl)
   where
     by : (o : Option Entry) → last_of_thread past d (suc t) ≡ o → state_by_last (thread.Idle k) o ≡ thread.Idle k
     by None q = refl

@@ -8,7 +8,7 @@ use Rattle.jx_base.specs.declared.act.Reply.TheVariants as reply
 use Rattle.jx_base.specs.declared.act.Entry.{Entry}
 use Rattle.jx_base.specs.declared.ids.ObjectId.{ObjectId}
 use Rattle.jx_base.specs.declared.program.System.{System}
-use Rattle.jx_base.specs.Basics.{numbered, not_below_zero, low_byte, or_zero, mapped}
+use Rattle.jx_base.specs.Basics.{numbered, not_below_zero, low_byte}
 use Rattle.jx_base.specs.Histories.{Past, is_done}
 use Rattle.jx_model.specs.MemoryObjects.{Part, objects_of, object_part, extents_made, is_allocation, allocation_of, allocated_bytes}
 use Rattle.jx_model.specs.Bytes.{covers, offset_in, object_byte, byte_after, byte_at}
@@ -19,18 +19,19 @@ use Rattle.jx_base.proofs.NthEntries.{nth_new, nth_old, count_grows}
 use Rattle.history_rows.proofs.Rows.{map_range, not_that, is_that}
 use Rattle.history_rows.proofs.CallActs.{entry}
 use Rattle.history_rows.proofs.Parts.{part_extent}
+use Rattle.std.specs.Option.{option_map, unwrap_or}
 
 -- ---- sizes
 
 -- an extent that was made keeps its size
 pub size_old : (e : Entry) (past : Past) (x : ℕ) → x ≤ extents_made past → extent_size (e ∷ past) x ≡ extent_size past x
 unfolding extent_size allocation_of
-size_old e past x u = ap (λ (o : Option Entry). or_zero (mapped (λ e. allocated_bytes e.act) o)) (nth_old is_allocation e past x (λ q. omega (arith, q, u)))
+size_old e past x u = ap (λ (o : Option Entry). unwrap_or (option_map (λ e. allocated_bytes e.act) o) 0) (nth_old is_allocation e past x (λ q. omega (arith, q, u)))
 
 -- the size of the extent that an entry makes
 pub size_new : (e : Entry) (past : Past) → is_allocation e ≡ true → extent_size (e ∷ past) (extents_made past + 1) ≡ allocated_bytes e.act
-unfolding extent_size allocation_of or_zero mapped
-size_new e past b = ap (λ (o : Option Entry). or_zero (mapped (λ e. allocated_bytes e.act) o)) (nth_new is_allocation e past (extents_made past + 1) b refl)
+unfolding extent_size allocation_of
+size_new e past b = ap (λ (o : Option Entry). unwrap_or (option_map (λ e. allocated_bytes e.act) o) 0) (nth_new is_allocation e past (extents_made past + 1) b refl)
 
 -- ---- acts that write nothing
 

@@ -16,7 +16,7 @@ use Rattle.jx_base.specs.declared.states.CallState.{CallState}
 use Rattle.jx_base.specs.declared.states.CallState.TheVariants as call
 use Rattle.jx_base.specs.declared.states.AnswerKind.{AnswerKind}
 use Rattle.jx_base.specs.declared.states.AnswerKind.TheVariants as kind
-use Rattle.jx_base.specs.Basics.{up_to, mapped, and_then, or_zero, is_number}
+use Rattle.jx_base.specs.Basics.{up_to, is_number}
 use Rattle.program_model.specs.ParcelParts.{parcel_objects}
 use Rattle.jx_base.specs.Histories.{Past, nth_entry}
 use Rattle.jx_model.specs.Domains.{ended_by, ended_by_act}
@@ -32,6 +32,7 @@ use Rattle.jx_base.proofs.NthEntries.{nth_there, nth_passes, count_same, count_g
 use Rattle.history_rows.proofs.Rows.{not_that, is_that, rows_same, map_map, filter_behind, some_of, or_false}
 use Rattle.history_rows.proofs.Stages.{StandsAt, live_caller_after, resumes, resumable_parts}
 use Rattle.history_rows.proofs.CallRows.{state_after_entry, carried_after, call_row_made, call_row_same, call_row_new, calls_same, calls_more, calls_one, unqueues, waiting_after, waiting_same, waiting_more}
+use Rattle.std.specs.Option.{option_and_then, option_map, unwrap_or}
 
 -- an entry by its parts
 abbrev pub entry : ℕ → ℕ → Act → Reply → Entry
@@ -290,34 +291,34 @@ unfolding is_call
 asked_there e h = (both (is_some (asked_by e.act)) (is_some (queued_as e.reply)) h).0
 
 -- a call that was queued has a service
-pub call_service_there : (past : Past) (c : ℕ) → 1 ≤ c → c ≤ calls_made past → service_of_call past c ≡ Some (or_zero (service_of_call past c))
-unfolding service_of_call asked_of call_entry mapped and_then or_zero
+pub call_service_there : (past : Past) (c : ℕ) → 1 ≤ c → c ≤ calls_made past → service_of_call past c ≡ Some (unwrap_or (service_of_call past c) 0)
+unfolding service_of_call asked_of call_entry
 call_service_there past c l u =
     let e = some_of (nth_entry is_call past c) (nth_there is_call past c l u) in
     let a = some_of (asked_by e.0.act) (asked_there e.0 (nth_passes is_call past c e.0 e.1).0) in
-    let s : mapped (λ a. a.service.0) (and_then (nth_entry is_call past c) (λ e. asked_by e.act)) ≡ Some a.0.service.0 =
-    ap (λ o. mapped (λ a. a.service.0) (and_then o (λ e. asked_by e.act))) e.1 ∙ ap (λ o. mapped (λ a. a.service.0) o) a.1 in
-    s ∙ ap (λ o. Some (or_zero o)) (sym s)
+    let s : option_map (λ a. a.service.0) (option_and_then (λ e. asked_by e.act) (nth_entry is_call past c)) ≡ Some a.0.service.0 =
+    ap (λ o. option_map (λ a. a.service.0) (option_and_then (λ e. asked_by e.act) o)) e.1 ∙ ap (λ o. option_map (λ a. a.service.0) o) a.1 in
+    s ∙ ap (λ o. Some (unwrap_or o 0)) (sym s)
 
 -- and a caller
-pub call_caller_there : (past : Past) (c : ℕ) → 1 ≤ c → c ≤ calls_made past → caller_of past c ≡ Some (or_zero (caller_of past c))
-unfolding caller_of call_entry mapped or_zero
+pub call_caller_there : (past : Past) (c : ℕ) → 1 ≤ c → c ≤ calls_made past → caller_of past c ≡ Some (unwrap_or (caller_of past c) 0)
+unfolding caller_of call_entry
 call_caller_there past c l u =
     let e = some_of (nth_entry is_call past c) (nth_there is_call past c l u) in
-    let s : mapped (λ a. a.domain.0) (nth_entry is_call past c) ≡ Some e.0.domain.0 = ap (λ o. mapped (λ a. a.domain.0) o) e.1 in
-    s ∙ ap (λ o. Some (or_zero o)) (sym s)
+    let s : option_map (λ a. a.domain.0) (nth_entry is_call past c) ≡ Some e.0.domain.0 = ap (λ o. option_map (λ a. a.domain.0) o) e.1 in
+    s ∙ ap (λ o. Some (unwrap_or o 0)) (sym s)
 
 -- what the end answers a call
 pub answer_at_end : (past : Past) (e : Entry) (d c : ℕ) → EndsOne e d → 1 ≤ c → c ≤ calls_made past →
-    answered_by past e c ≡ (if owned_by past d (or_zero (service_of_call past c)) then Some Answer.Ended else None)
-unfolding answered_by ends_server ends_domain server_of and_then
+    answered_by past e c ≡ (if owned_by past d (unwrap_or (service_of_call past c) 0) then Some Answer.Ended else None)
+unfolding answered_by ends_server ends_domain server_of
 answer_at_end past e d c h l u =
-    ap (λ (o : Option Answer). elim o as (λ _. Option Answer) [ Some a ↦ Some a | None ↦ if ends_domain (ended_by e) (and_then (service_of_call past c) (owner_of past)) then Some Answer.Ended else None ]) (h.answer c)
-    ∙ ap2 (λ (x : Option (ℕ × Reason)) (o : Option ℕ). if ends_domain x (and_then o (owner_of past)) then Some Answer.Ended else None) h.ends (call_service_there past c l u)
+    ap (λ (o : Option Answer). elim o as (λ _. Option Answer) [ Some a ↦ Some a | None ↦ if ends_domain (ended_by e) (option_and_then (owner_of past) (service_of_call past c)) then Some Answer.Ended else None ]) (h.answer c)
+    ∙ ap2 (λ (x : Option (ℕ × Reason)) (o : Option ℕ). if ends_domain x (option_and_then (owner_of past) o) then Some Answer.Ended else None) h.ends (call_service_there past c l u)
 
 -- whether a caller lives after the end
 caller_at_end : (s : System) (past : Past) (e : Entry) (d c : ℕ) → IsAdmittedPast s past → EndsOne e d → 1 ≤ c → c ≤ calls_made past →
-    has_live_caller (e ∷ past) c ≡ (has_live_caller past c && not (or_zero (caller_of past c) == d))
+    has_live_caller (e ∷ past) c ≡ (has_live_caller past c && not (unwrap_or (caller_of past c) 0 == d))
 unfolding ends_domain is_number
 caller_at_end s past e d c a h l u =
     live_caller_after s e past c a u
@@ -351,13 +352,13 @@ calls_after_end s past e d a h =
     } in row)
     (h.take c) (answer_at_end past e d c h l u) (h.resume c)
     ∙ ap (λ (b : Bool). let row : CallRow = record (call_row past c) {
-      state = state_after_entry (call_state past c) false (if owned_by past d (or_zero (service_of_call past c)) then Some Answer.Ended else None) false;
-      carried = carried_after (call_state past c) (carried past c) false (if owned_by past d (or_zero (service_of_call past c)) then Some Answer.Ended else None) b;
+      state = state_after_entry (call_state past c) false (if owned_by past d (unwrap_or (service_of_call past c) 0) then Some Answer.Ended else None) false;
+      carried = carried_after (call_state past c) (carried past c) false (if owned_by past d (unwrap_or (service_of_call past c) 0) then Some Answer.Ended else None) b;
     } in row)
     (and_true (has_live_caller (e ∷ past) c) ∙ caller_at_end s past e d c a h l u)
     ∙ ap2 (λ (x : CallState) (y : List ℕ). let row : CallRow = record (call_row past c) { state = x; carried = y } in row)
-    (states (call_state past c) (owned_by past d (or_zero (service_of_call past c))))
-    (carries (call_state past c) (owned_by past d (or_zero (service_of_call past c))) (or_zero (caller_of past c) == d) (has_live_caller past c) (carried past c) (dead_carries past c)))
+    (states (call_state past c) (owned_by past d (unwrap_or (service_of_call past c) 0)))
+    (carries (call_state past c) (owned_by past d (unwrap_or (service_of_call past c) 0)) (unwrap_or (caller_of past c) 0 == d) (has_live_caller past c) (carried past c) (dead_carries past c)))
     ∙ map_map (ended_call (owned_by past d) d) (call_row past) (up_to (calls_made past))
   where
     states : (x : CallState) (lost : Bool) → state_after_entry x false (if lost then Some Answer.Ended else None) false ≡ state_after_end lost x
@@ -398,13 +399,13 @@ calls_after_end s past e d a h =
     carries call.Resumed lost gone lives old none = refl
 
 -- the waiting calls after the end of a domain: without those of its services
-pub waiting_after_end : (past : Past) (e : Entry) (d : ℕ) → EndsOne e d → waiting_calls (e ∷ past) ≡ filter (λ c. not (owned_by past d (or_zero (service_of_call past c)))) (waiting_calls past)
+pub waiting_after_end : (past : Past) (e : Entry) (d : ℕ) → EndsOne e d → waiting_calls (e ∷ past) ≡ filter (λ c. not (owned_by past d (unwrap_or (service_of_call past c) 0))) (waiting_calls past)
 unfolding waiting_calls up_to
 waiting_after_end past e d h =
     waiting_after e past h.call
-    ∙ filter_behind (is_queued past) (λ c. not (unqueues past e c)) (λ c. not (owned_by past d (or_zero (service_of_call past c)))) 1 (calls_made past) (λ c l u.
+    ∙ filter_behind (is_queued past) (λ c. not (unqueues past e c)) (λ c. not (owned_by past d (unwrap_or (service_of_call past c) 0))) 1 (calls_made past) (λ c l u.
     ap2 (λ (b : Bool) (o : Option Answer). not (b || is_some o)) (h.take c) (answer_at_end past e d c h l (omega (arith, u)))
-    ∙ ap not (is_it (owned_by past d (or_zero (service_of_call past c)))))
+    ∙ ap not (is_it (owned_by past d (unwrap_or (service_of_call past c) 0))))
   where
     is_it : (b : Bool) → is_some (if b then Some Answer.Ended else None) ≡ b
     is_it true = refl

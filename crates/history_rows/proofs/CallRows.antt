@@ -4,7 +4,7 @@ use Rattle.jx_base.specs.declared.act.Entry.{Entry}
 use Rattle.jx_base.specs.declared.program.System.{System}
 use Rattle.jx_base.specs.declared.states.CallState.{CallState}
 use Rattle.jx_base.specs.declared.states.CallState.TheVariants as call
-use Rattle.jx_base.specs.Basics.{up_to, mapped, and_then, or_zero}
+use Rattle.jx_base.specs.Basics.{up_to}
 use Rattle.jx_base.specs.Histories.{Past}
 use Rattle.jx_model.specs.Calls.{Answer, Asked, is_call, calls_made, call_entry, caller_of, marked, answer_of, answered_by, is_taken, is_resumed, is_take_of, is_resume_of, is_queued, is_unanswered, has_live_caller, service_of_call, asked_of, asked_by, call_state, call_stage, waiting_calls, answer_kind}
 use Rattle.jx_model.specs.Holding.{carried, carried_by, asked_objects, answer_objects}
@@ -15,6 +15,7 @@ use Rattle.jx_base.proofs.NthEntries.{nth_new, nth_there, count_new, count_same}
 use Rattle.jx_model.proofs.CallSteps.{since_new, taken_made, resumed_made, answer_made, entry_made, asked_made, service_made}
 use Rattle.history_rows.proofs.Rows.{rows_same, rows_more, rows_set, rows_get, rows_length, filter_same, filter_more, filter_twice, or_false}
 use Rattle.history_rows.proofs.Stages.{resumed_answered}
+use Rattle.std.specs.Option.{option_and_then, option_map, unwrap_or}
 
 -- ---- one call
 
@@ -132,9 +133,9 @@ pub call_row_made : (s : System) (e : Entry) (past : Past) (c : ℕ) → IsAdmit
 unfolding call_row caller_of calling_thread
 call_row_made s e past c a l u lives =
     ap2 (λ (x : Option Entry) (k : Option ℕ). let row : CallRow = record {
-      caller = or_zero (mapped (λ e. e.domain.0) x);
-      thread = or_zero (mapped (λ e. e.thread.0) x);
-      service = or_zero k;
+      caller = unwrap_or (option_map (λ e. e.domain.0) x) 0;
+      thread = unwrap_or (option_map (λ e. e.thread.0) x) 0;
+      service = unwrap_or k 0;
       state = call_state (e ∷ past) c;
       carried = carried (e ∷ past) c;
     } in row)
@@ -147,15 +148,15 @@ pub call_row_same : (e : Entry) (past : Past) (c : ℕ) → 1 ≤ c → c ≤ ca
 unfolding call_row caller_of calling_thread carried is_queued is_unanswered call_state
 call_row_same e past c l u t n r v =
     ap2 (λ (x : Option Entry) (k : Option Asked). let row : CallRow = record {
-      caller = or_zero (mapped (λ e. e.domain.0) x);
-      thread = or_zero (mapped (λ e. e.thread.0) x);
-      service = or_zero (service_of_call (e ∷ past) c);
+      caller = unwrap_or (option_map (λ e. e.domain.0) x) 0;
+      thread = unwrap_or (option_map (λ e. e.thread.0) x) 0;
+      service = unwrap_or (service_of_call (e ∷ past) c) 0;
       state = call_state (e ∷ past) c;
       carried = carried_by (is_queued (e ∷ past) c) (has_live_caller (e ∷ past) c && not (is_resumed (e ∷ past) c)) k (answer_of (e ∷ past) c);
     } in row)
     (entry_made e past c u) (asked_made e past c u)
     ∙ ap2 (λ (k : Option ℕ) (b : Bool). let row : CallRow = record (call_row past c) {
-      service = or_zero k;
+      service = unwrap_or k 0;
       state = call_state (e ∷ past) c;
       carried = carried_by (is_queued (e ∷ past) c) (b && not (is_resumed (e ∷ past) c)) (asked_of past c) (answer_of (e ∷ past) c);
     } in row)
@@ -179,20 +180,20 @@ call_row_same e past c l u t n r v =
 -- the row of the call that an entry makes
 pub call_row_new : (e : Entry) (past : Past) (a : Asked) → is_call e ≡ true → asked_by e.act ≡ Some a →
     call_row (e ∷ past) (calls_made past + 1) ≡ record { caller = e.domain.0; thread = e.thread.0; service = a.service.0; state = call.Queued; carried = asked_objects (Some a) }
-unfolding call_row caller_of calling_thread carried is_queued is_unanswered call_state is_resumed is_taken answer_of service_of_call asked_of call_entry call_stage carried_by mapped and_then or_zero
+unfolding call_row caller_of calling_thread carried is_queued is_unanswered call_state is_resumed is_taken answer_of service_of_call asked_of call_entry call_stage carried_by
 call_row_new e past a h q =
     ap3 (λ (x : Option Entry) (r : Option (Unit {0})) (o : Option Answer). let row : CallRow = record {
-      caller = or_zero (mapped (λ e. e.domain.0) x);
-      thread = or_zero (mapped (λ e. e.thread.0) x);
-      service = or_zero (mapped (λ a. a.service.0) (and_then x (λ e. asked_by e.act)));
+      caller = unwrap_or (option_map (λ e. e.domain.0) x) 0;
+      thread = unwrap_or (option_map (λ e. e.thread.0) x) 0;
+      service = unwrap_or (option_map (λ a. a.service.0) (option_and_then (λ e. asked_by e.act) x)) 0;
       state = call_stage (is_some r) o (is_taken (e ∷ past) n);
-      carried = carried_by (is_some x && is_none o && not (is_taken (e ∷ past) n)) (has_live_caller (e ∷ past) n && not (is_some r)) (and_then x (λ e. asked_by e.act)) o;
+      carried = carried_by (is_some x && is_none o && not (is_taken (e ∷ past) n)) (has_live_caller (e ∷ past) n && not (is_some r)) (option_and_then (λ e. asked_by e.act) x) o;
     } in row)
     (nth_new is_call e past n h refl) (since_new (λ before e. marked (is_resume_of n e.act)) e past n (omega arith)) (since_new (λ before e. answered_by before e n) e past n (omega arith))
     ∙ ap2 (λ (t : Option (Unit {0})) (k : Option Asked). let row : CallRow = record {
       caller = e.domain.0;
       thread = e.thread.0;
-      service = or_zero (mapped (λ a. a.service.0) k);
+      service = unwrap_or (option_map (λ a. a.service.0) k) 0;
       state = call_stage false None (is_some t);
       carried = carried_by (not (is_some t)) (has_live_caller (e ∷ past) n && true) k None;
     } in row)

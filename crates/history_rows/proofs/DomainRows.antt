@@ -4,7 +4,7 @@ use Rattle.jx_base.specs.declared.act.Reason.{Reason}
 use Rattle.jx_base.specs.declared.act.Entry.{Entry}
 use Rattle.jx_base.specs.declared.states.DomainState.{DomainState}
 use Rattle.jx_base.specs.declared.program.System.{System}
-use Rattle.jx_base.specs.Basics.{up_to, or_zero, mapped, and_then}
+use Rattle.jx_base.specs.Basics.{up_to}
 use Rattle.jx_base.specs.Histories.{Past, nth_entry}
 use Rattle.jx_model.specs.Domains.{is_birth, domains_made, birth_of, template_of, creator_of, heap_place_of, named_template, reply_granule, end_reason, ended_by, reason_for}
 use Rattle.jx_model.specs.Tables.{domain_row, domain_rows}
@@ -13,20 +13,21 @@ use Rattle.jx_base.proofs.BasicLaws.{ap2}
 use Rattle.jx_base.proofs.NthEntries.{nth_new, nth_old, count_new, count_same}
 use Rattle.history_rows.proofs.Rows.{rows_same, rows_more, rows_set, rows_get, not_that, is_that}
 use Rattle.history_rows.proofs.Actors.{unmade_unended}
+use Rattle.std.specs.Option.{option_and_then, option_map, unwrap_or}
 
 -- a domain's row by the entry that made it and why it ended
 abbrev pub domain_by : System → Option Entry → Option Reason → DomainState
 domain_by s b r =
     record {
-      template = or_zero (and_then b (λ e. named_template s e.act));
-      creator = record { 0 = or_zero (mapped (λ e. e.domain.0) b) };
-      at = or_zero (mapped (λ e. reply_granule e.reply) b);
+      template = unwrap_or (option_and_then (λ e. named_template s e.act) b) 0;
+      creator = record { 0 = unwrap_or (option_map (λ e. e.domain.0) b) 0 };
+      at = unwrap_or (option_map (λ e. reply_granule e.reply) b) 0;
       ended = r;
     }
 
 -- the row of the domain that an entry makes
 abbrev pub born : System → Entry → DomainState
-born s e = record { template = or_zero (named_template s e.act); creator = e.domain; at = reply_granule e.reply; ended = None }
+born s e = record { template = unwrap_or (named_template s e.act) 0; creator = e.domain; at = reply_granule e.reply; ended = None }
 
 -- the reason of an entry, or else the one before it
 abbrev pub reason_after : Option (ℕ × Reason) → ℕ → Option Reason → Option Reason
@@ -49,7 +50,7 @@ module _ (s : System) (past : Past) (e : Entry) where
 
   -- one that makes a domain adds its row
   pub domains_after_birth : IsAdmittedPast s past → is_birth e ≡ true → ended_by e ≡ None → domain_rows s (e ∷ past) ≡ domain_rows s past ++ born s e ∷ []
-  unfolding domain_rows domain_row reason_for template_of creator_of heap_place_of birth_of end_reason and_then or_zero mapped
+  unfolding domain_rows domain_row reason_for template_of creator_of heap_place_of birth_of end_reason
   domains_after_birth a b n =
       ap (λ (k : ℕ). map (domain_row s (e ∷ past)) (up_to k)) (count_new is_birth e past b)
       ∙ rows_more (domain_row s (e ∷ past)) (domains_made past)

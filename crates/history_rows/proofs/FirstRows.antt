@@ -2,7 +2,7 @@
 use Rattle.std.proofs.Common.{◌≡◌, refl, sym, ℕ, suc, zero, ◌+◌, Bool, false, [], map, replicate}
 use Rattle.std.specs.List.{range_with_len}
 use Rattle.jx_base.specs.declared.program.System.{System}
-use Rattle.jx_base.specs.Basics.{up_to, and_then}
+use Rattle.jx_base.specs.Basics.{up_to}
 use Rattle.program_model.specs.Limits.{granule_limit}
 use Rattle.jx_base.specs.Histories.{count_where}
 use Rattle.jx_model.specs.Portals.{bound_service, last_bound}
@@ -10,6 +10,7 @@ use Rattle.jx_model.specs.Calls.{waiting_calls}
 use Rattle.jx_model.specs.MemoryObjects.{objects_of, objects_made}
 use Rattle.jx_model.specs.Granules.{heap_runs, extent_runs, used_runs, lies_in_one, is_used_granule}
 use Rattle.jx_model.specs.Tables.{Kept, StandsFor, domain_rows, service_rows, named_service, call_rows, object_rows, extent_rows, granule_row}
+use Rattle.std.specs.Option.{option_and_then}
 
 no_flags : (f : ℕ → Bool) (a n : ℕ) → ((g : ℕ) → f g ≡ false) → map f (range_with_len a n) ≡ replicate n false
 no_flags f a zero h = refl
@@ -34,7 +35,7 @@ first_kept s =
 
 -- it stands for the past without entries
 pub stands_at_start : (s : System) → StandsFor s (first_kept s)
-unfolding domain_rows service_rows named_service bound_service last_bound and_then call_rows waiting_calls objects_of object_rows objects_made extent_rows granule_row is_used_granule lies_in_one used_runs heap_runs extent_runs count_where up_to
+unfolding domain_rows service_rows named_service bound_service last_bound call_rows waiting_calls objects_of object_rows objects_made extent_rows granule_row is_used_granule lies_in_one used_runs heap_runs extent_runs count_where up_to
 stands_at_start s =
     record {
       admitted = tt;

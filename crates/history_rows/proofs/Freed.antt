@@ -12,7 +12,7 @@ use Rattle.jx_base.specs.declared.ids.CallId.{CallId}
 use Rattle.jx_base.specs.declared.ids.ServiceId.{ServiceId}
 use Rattle.jx_base.specs.declared.states.ThreadState.{ThreadState}
 use Rattle.jx_base.specs.declared.program.System.{System}
-use Rattle.jx_base.specs.Basics.{up_to, mapped, passes, and_then}
+use Rattle.jx_base.specs.Basics.{up_to, passes}
 use Rattle.program_model.specs.Limits.{granule_limit}
 use Rattle.jx_base.specs.Histories.{Past, is_own}
 use Rattle.jx_model.specs.Domains.{is_live, is_birth, domains_made}
@@ -34,6 +34,7 @@ use Rattle.history_rows.proofs.Absent.{absent}
 use Rattle.history_rows.proofs.InUse.{in_use_made}
 use Rattle.history_rows.proofs.Parts.{get_left}
 use Rattle.history_rows.proofs.Granules.{Owner, HeapOf, ExtentOf, is_owner_used, Holds, any_run, granules_freed}
+use Rattle.std.specs.Option.{option_and_then, option_map}
 
 -- ---- freed granules
 
@@ -108,8 +109,7 @@ chosen : (b : Bool) (t : ℕ) (x : Option ℕ) → (if b then x else None) ≡ S
 chosen true t x h = (refl, h)
 chosen false t x h = cc
 
-of_then : (o : Option ℕ) (f : ℕ → Option ℕ) (t : ℕ) → and_then o f ≡ Some t → (k : ℕ) × (o ≡ Some k) × (f k ≡ Some t)
-unfolding and_then
+of_then : (o : Option ℕ) (f : ℕ → Option ℕ) (t : ℕ) → option_and_then f o ≡ Some t → (k : ℕ) × (o ≡ Some k) × (f k ≡ Some t)
 of_then None f t h = cc
 of_then (Some k) f t h = (k, refl, h)
 
@@ -132,13 +132,13 @@ idle_serving k s (Some c) h = cc
 
 -- the thread that takes a call is one of the call's service
 pub taker_service : (s : System) (past : Past) (d t : ℕ) (c : CallId) (k : ServiceId) → acting_thread s past d (act.Take c) ≡ Some (suc t) → slice_get (service_threads past d) t ≡ Some k → service_of_call past c.0 ≡ Some k.0
-unfolding is_halt zero_may domain_thread may_perform is_zero_act is_choice choice_thread taking_thread idle_thread thread_state passes mapped
+unfolding is_halt zero_may domain_thread may_perform is_zero_act is_choice choice_thread taking_thread idle_thread thread_state passes
 taker_service s past d t c k h g =
     let n = of_none (running_thread past d) (is_live past d) (suc t) (taking_thread past d c.0) (in_domain s past d (suc t) (act.Take c) refl refl h).1 in
-    let q = chosen (is_head past d c.0) (suc t) (and_then (service_of_call past c.0) (idle_thread past d)) n.2 in
+    let q = chosen (is_head past d c.0) (suc t) (option_and_then (idle_thread past d) (service_of_call past c.0)) n.2 in
     let j = of_then (service_of_call past c.0) (idle_thread past d) (suc t) q.1 in
     let w = where_passes past d (suc t) (is_idle_for j.0) j.2 in
-    let v = ap (λ (o : Option ServiceId). passes (is_idle_for j.0) (mapped (λ s. state_by_last (serving_state s (served_call past d (suc t))) (last_of_thread past d (suc t))) o)) (sym g) ∙ w in
+    let v = ap (λ (o : Option ServiceId). passes (is_idle_for j.0) (option_map (λ s. state_by_last (serving_state s (served_call past d (suc t))) (last_of_thread past d (suc t))) o)) (sym g) ∙ w in
     let z = idle_serving j.0 k (served_call past d (suc t)) (idle_last j.0 (serving_state k (served_call past d (suc t))) (last_of_thread past d (suc t)) v) in
     j.1 ∙ ap Some (sym z)
 

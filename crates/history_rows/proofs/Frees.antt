@@ -12,7 +12,7 @@ use Rattle.jx_base.specs.declared.act.Entry.{Entry}
 use Rattle.jx_base.specs.declared.ids.CallId.{CallId}
 use Rattle.jx_base.specs.declared.ids.ObjectId.{ObjectId}
 use Rattle.jx_base.specs.declared.program.System.{System}
-use Rattle.jx_base.specs.Basics.{contains_number, passes, numbered, and_then, not_below_zero}
+use Rattle.jx_base.specs.Basics.{contains_number, passes, numbered, not_below_zero}
 use Rattle.jx_base.specs.Histories.{Past, is_done, is_own}
 use Rattle.jx_model.specs.Domains.{is_live, ended_by, ended_by_act}
 use Rattle.jx_model.specs.Calls.{Answer, Asked, ends_domain, calls_made, is_queued, is_resumed, has_live_caller, answer_of, answered_by, answered_by_act, answer_by_reply, thrown, server_of, ends_server, asked_of, is_take_of, is_resume_of, call_state}
@@ -37,6 +37,7 @@ use Rattle.history_rows.proofs.Uses.{Use, ByDomain, ByCall}
 use Rattle.history_rows.proofs.Given.{new_numbers}
 use Rattle.history_rows.proofs.ObjectRows.{parts_made, makes_gives, contains_range}
 use Rattle.history_rows.proofs.InUse.{IsUsedBy, used_by, in_use, holder_lives, carrier_made}
+use Rattle.std.specs.Option.{option_and_then}
 
 -- ---- an object's line lies on its extent
 
@@ -166,8 +167,8 @@ take_receives None k m h = cc
 take_receives (Some a) k m h = h
 
 -- who goes on after a call receives its answer
-resume_receives : (o : Option Answer) (k : CallId) (m : ℕ) → contains_number (answer_objects o) m ≡ true → contains_number (received_objects (act.Resume k) (or_done (and_then o answer_reply))) m ≡ true
-unfolding answer_objects or_done and_then answer_reply received_objects received_parcel objects_in contains_number
+resume_receives : (o : Option Answer) (k : CallId) (m : ℕ) → contains_number (answer_objects o) m ≡ true → contains_number (received_objects (act.Resume k) (or_done (option_and_then answer_reply o))) m ≡ true
+unfolding answer_objects or_done answer_reply received_objects received_parcel objects_in contains_number
 resume_receives None k m h = cc
 resume_receives (Some (Answer.Value p)) k m h = h
 resume_receives (Some (Answer.Thrown p)) k m h = h

@@ -9,7 +9,7 @@ use Rattle.jx_base.specs.declared.act.Entry.{Entry}
 use Rattle.jx_base.specs.declared.ids.CallId.{CallId}
 use Rattle.jx_base.specs.declared.value.Parcel.{Parcel}
 use Rattle.jx_base.specs.declared.program.System.{System}
-use Rattle.jx_base.specs.Basics.{up_to, contains_number, and_then}
+use Rattle.jx_base.specs.Basics.{up_to, contains_number}
 use Rattle.program_model.specs.ParcelParts.{parcel_objects}
 use Rattle.jx_base.specs.Histories.{Past}
 use Rattle.jx_model.specs.Portals.{received_parcel}
@@ -23,6 +23,7 @@ use Rattle.jx_model.specs.Growth.{numbers_given, new_object_numbers}
 use Rattle.jx_model.specs.Legal.{IsAdmittedPast}
 use Rattle.jx_base.proofs.BasicLaws.{up_to_append, eq_of}
 use Rattle.jx_model.proofs.NumbersGiven.{numbers_once}
+use Rattle.std.specs.Option.{option_and_then}
 
 cancel : (xs ys zs : List ℕ) → xs ++ ys ≡ xs ++ zs → ys ≡ zs
 cancel [] ys zs h = h
@@ -67,8 +68,8 @@ unfolding job_of asked_objects
 job_gives None k p s n q h = cc
 job_gives (Some a) k p s n q h = let z : p ≡ a.parcel = cc in ap (λ (x : Parcel). contains_number (parcel_objects x) k) (sym z) ∙ h
 
-value_gives : (o : Option Answer) (k : ℕ) (p : Parcel) → reply.Value p ≡ or_done (and_then o answer_reply) → contains_number (parcel_objects p) k ≡ true → contains_number (answer_objects o) k ≡ true
-unfolding or_done and_then answer_reply answer_objects
+value_gives : (o : Option Answer) (k : ℕ) (p : Parcel) → reply.Value p ≡ or_done (option_and_then answer_reply o) → contains_number (parcel_objects p) k ≡ true → contains_number (answer_objects o) k ≡ true
+unfolding or_done answer_reply answer_objects
 value_gives None k p q h = cc
 value_gives (Some (Answer.Value x)) k p q h = let z : p ≡ x = cc in ap (λ (y : Parcel). contains_number (parcel_objects y) k) (sym z) ∙ h
 value_gives (Some (Answer.Thrown x)) k p q h = cc
@@ -76,8 +77,8 @@ value_gives (Some Answer.CopyFailed) k p q h = cc
 value_gives (Some Answer.Ended) k p q h = cc
 value_gives (Some Answer.Discarded) k p q h = cc
 
-thrown_gives : (o : Option Answer) (k : ℕ) (p : Parcel) → reply.Thrown p ≡ or_done (and_then o answer_reply) → contains_number (parcel_objects p) k ≡ true → contains_number (answer_objects o) k ≡ true
-unfolding or_done and_then answer_reply answer_objects
+thrown_gives : (o : Option Answer) (k : ℕ) (p : Parcel) → reply.Thrown p ≡ or_done (option_and_then answer_reply o) → contains_number (parcel_objects p) k ≡ true → contains_number (answer_objects o) k ≡ true
+unfolding or_done answer_reply answer_objects
 thrown_gives None k p q h = cc
 thrown_gives (Some (Answer.Value x)) k p q h = cc
 thrown_gives (Some (Answer.Thrown x)) k p q h = let z : p ≡ x = cc in ap (λ (y : Parcel). contains_number (parcel_objects y) k) (sym z) ∙ h

@@ -13,7 +13,7 @@ use Rattle.jx_base.specs.declared.act.Entry.{Entry}
 use Rattle.jx_base.specs.declared.ids.DomainId.{DomainId}
 use Rattle.jx_base.specs.declared.ids.ObjectId.{ObjectId}
 use Rattle.jx_base.specs.declared.program.System.{System}
-use Rattle.jx_base.specs.Basics.{up_to, or_zero, mapped, and_then, not_below_zero}
+use Rattle.jx_base.specs.Basics.{up_to, not_below_zero}
 use Rattle.program_model.specs.Limits.{granule_limit}
 use Rattle.jx_base.specs.Histories.{Past, count_where}
 use Rattle.jx_model.specs.Domains.{is_live, is_birth, makes_domain, domains_made, birth_of, template_of, heap_place_of, named_template, template_named, reply_granule, ended_by}
@@ -30,6 +30,7 @@ use Rattle.history_rows.proofs.Rows.{same_or_not, any_append, any_at, any_found,
 use Rattle.history_rows.proofs.Actors.{IsMade, live_made}
 use Rattle.history_rows.proofs.Stages.{live_after}
 use Rattle.history_rows.proofs.InUse.{in_use_before, in_use_made}
+use Rattle.std.specs.Option.{option_and_then, option_map, unwrap_or}
 
 -- ---- by owners
 
@@ -191,16 +192,16 @@ fits_extent s past n m g h = by (first_fit s past (extent_granules (not_below_ze
 -- the heap of a new domain is the first fit of its template's granules
 pub birth_fits : (s : System) (e : Entry) (past : Past) → IsNext s past e → is_birth e ≡ true →
     let r : Run = heap_run s (e ∷ past) (domains_made past + 1) in first_fit s past r.1 ≡ Some r.0
-unfolding heap_run heap_place_of template_of birth_of is_birth makes_domain reply_to reply_granule named_template and_then mapped or_zero
+unfolding heap_run heap_place_of template_of birth_of is_birth makes_domain reply_to reply_granule named_template
 birth_fits s e past n b =
-    subst (λ (o : Option Entry). first_fit s past (or_zero (mapped (heap_granules s) (and_then o (λ e. named_template s e.act)))) ≡ Some (or_zero (mapped (λ e. reply_granule e.reply) o)))
+    subst (λ (o : Option Entry). first_fit s past (unwrap_or (option_map (heap_granules s) (option_and_then (λ e. named_template s e.act) o)) 0) ≡ Some (unwrap_or (option_map (λ e. reply_granule e.reply) o) 0))
     (sym (nth_new is_birth e past (domains_made past + 1) b refl)) (by e.act e.reply n.reply b)
   where
-    by : (a : Act) (r : Reply) → r ≡ reply_to s past e.domain.0 a → makes_domain a r ≡ true → first_fit s past (or_zero (mapped (heap_granules s) (named_template s a))) ≡ Some (reply_granule r)
+    by : (a : Act) (r : Reply) → r ≡ reply_to s past e.domain.0 a → makes_domain a r ≡ true → first_fit s past (unwrap_or (option_map (heap_granules s) (named_template s a)) 0) ≡ Some (reply_granule r)
     by (act.Create t) (reply.Domain d g) q b = fits_domain s past t d g q
     by (act.Spawn name) (reply.Domain d g) q b =
         let x = fits_spawn s past name d g q in
-        ap (λ (o : Option ℕ). first_fit s past (or_zero (mapped (heap_granules s) o))) x.1 ∙ x.2
+        ap (λ (o : Option ℕ). first_fit s past (unwrap_or (option_map (heap_granules s) o) 0)) x.1 ∙ x.2
     by _ _ q b = cc
 
 -- the granules of a new extent are the first fit of its bytes
@@ -243,7 +244,7 @@ beyond x y q = grind (arith, nat_tests)
 -- the heap of a domain that was made before
 pub heap_old : (s : System) (e : Entry) (past : Past) (d : ℕ) → d ≤ domains_made past → heap_run s (e ∷ past) d ≡ heap_run s past d
 unfolding heap_run heap_place_of template_of birth_of
-heap_old s e past d u = ap (λ (o : Option Entry). let r : Run = (or_zero (mapped (λ e. reply_granule e.reply) o), or_zero (mapped (heap_granules s) (and_then o (λ e. named_template s e.act)))) in r) (nth_old is_birth e past d (λ q. omega (arith, q, u)))
+heap_old s e past d u = ap (λ (o : Option Entry). let r : Run = (unwrap_or (option_map (λ e. reply_granule e.reply) o) 0, unwrap_or (option_map (heap_granules s) (option_and_then (λ e. named_template s e.act) o)) 0) in r) (nth_old is_birth e past d (λ q. omega (arith, q, u)))
 
 -- the granules of an extent that was made before
 pub run_old : (e : Entry) (past : Past) (x : ℕ) → x ≤ extents_made past → extent_run (e ∷ past) x ≡ extent_run past x

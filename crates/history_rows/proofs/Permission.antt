@@ -12,7 +12,7 @@ use Rattle.jx_base.specs.declared.states.DomainState.{DomainState}
 use Rattle.jx_base.specs.declared.states.ThreadState.{ThreadState}
 use Rattle.jx_base.specs.declared.states.ThreadState.TheVariants as thread
 use Rattle.jx_base.specs.declared.program.System.{System}
-use Rattle.jx_base.specs.Basics.{up_to, numbered, mapped, and_then, passes, or_else, or_zero, first_some, is_number}
+use Rattle.jx_base.specs.Basics.{up_to, numbered, passes, first_some, is_number}
 use Rattle.jx_base.specs.Histories.{Past, nth_entry}
 use Rattle.jx_base.specs.declared.act.Entry.{Entry}
 use Rattle.jx_model.specs.Domains.{is_live, domains_made}
@@ -25,6 +25,7 @@ use Rattle.jx_base.proofs.NthEntries.{nth_none, nth_passes, count_grows}
 use Rattle.history_rows.proofs.Rows.{find_range, find_same, rows_get, filter_behind}
 use Rattle.history_rows.proofs.Actors.{live_made, live_by_reason}
 use Rattle.history_rows.proofs.CallActs.{call_service_there, call_caller_there}
+use Rattle.std.specs.Option.{option_and_then, option_map, option_or, unwrap_or}
 
 -- ---- life
 
@@ -104,7 +105,7 @@ place_found f p a (suc n) = by (p (f a)) (place_found f p (a + 1) n)
 
 -- a thread of the domain has the state of its row
 pub state_by_row : (past : Past) (d t : ℕ) → t ≤ length (service_threads past d) → thread_state past d t ≡ Some (thread_row past d t).state
-unfolding thread_row thread_state state_or_over mapped
+unfolding thread_row thread_state state_or_over
 state_by_row past d zero l = refl
 state_by_row past d (suc t) l = by _ (slice_get (service_threads past d) t) (there (service_threads past d) t (omega (arith, l)))
   where
@@ -113,7 +114,7 @@ state_by_row past d (suc t) l = by _ (slice_get (service_threads past d) t) (the
     there (x ∷ xs) zero l = refl
     there (x ∷ xs) (suc i) l = there xs i (omega (arith, l))
 
-    by : (f : ServiceId → ThreadState) (o : Option ServiceId) → is_some o ≡ true → mapped f o ≡ Some (state_or_over (mapped f o))
+    by : (f : ServiceId → ThreadState) (o : Option ServiceId) → is_some o ≡ true → option_map f o ≡ Some (state_or_over (option_map f o))
     by f None h = cc
     by f (Some k) h = refl
 
@@ -148,8 +149,8 @@ made_resumable : (s : System) (past : Past) (c : ℕ) → 1 ≤ c → c ≤ call
 unfolding call_rows call_row passes is_resumable has_live_caller call_state call_stage
 made_resumable s past c l u =
     ap (λ (o : Option ℕ). is_some (answer_of past c) && passes (is_live past) o && not (is_resumed past c)) (call_caller_there past c l u)
-    ∙ ap (λ (b : Bool). is_some (answer_of past c) && b && not (is_resumed past c)) (lives_by_rows s past (or_zero (caller_of past c)))
-    ∙ by (answer_of past c) (is_resumed past c) (is_taken past c) (lives_in (domain_rows s past) (or_zero (caller_of past c)))
+    ∙ ap (λ (b : Bool). is_some (answer_of past c) && b && not (is_resumed past c)) (lives_by_rows s past (unwrap_or (caller_of past c) 0))
+    ∙ by (answer_of past c) (is_resumed past c) (is_taken past c) (lives_in (domain_rows s past) (unwrap_or (caller_of past c) 0))
     ∙ sym (ap (passes (λ (row : CallRow). is_answered row.state && lives_in (domain_rows s past) row.caller)) (numbered_row (call_row past) (calls_made past) c l u))
   where
     by : (o : Option Answer) (r t v : Bool) → (is_some o && v && not r) ≡ (is_answered (call_stage r o t) && v)
@@ -233,14 +234,14 @@ resume_by domains calls _ = None
 
 -- the take of a service's first call where a thread of it is idle, by the rows
 abbrev pub take_by : List ThreadRow → List CallRow → List ℕ → ℕ → Option Act
-take_by threads calls waiting k = if is_some (thread_in threads (is_idle_for k)) then mapped (λ c. act.Take (record { 0 = c })) (head_in calls waiting k) else None
+take_by threads calls waiting k = if is_some (thread_in threads (is_idle_for k)) then option_map (λ c. act.Take (record { 0 = c })) (head_in calls waiting k) else None
 
 -- the first choice of a domain with those services, by the rows
 abbrev pub choice_by : List DomainState → List ThreadRow → List CallRow → List ℕ → List ServiceId → ℕ → Option Act
 choice_by domains threads calls waiting services d =
     if lives_in domains d && is_none (running_in domains threads d)
-    then or_else (first_some (λ row. resume_by domains calls row.state) threads)
-    (or_else (first_some (λ k. take_by threads calls waiting k.0) services) (mapped (λ t. act.Go (record { 0 = t })) (thread_in threads is_yielded)))
+    then option_or (first_some (λ row. resume_by domains calls row.state) threads)
+    (option_or (first_some (λ k. take_by threads calls waiting k.0) services) (option_map (λ t. act.Go (record { 0 = t })) (thread_in threads is_yielded)))
     else None
 
 some_range : {A B : Type 0} (f : ℕ → Option B) (g : A → Option B) (row : ℕ → A) (a n : ℕ) → ((t : ℕ) → a ≤ t → t < a + n → f t ≡ g (row t)) → first_some f (range_with_len a n) ≡ first_some g (map row (range_with_len a n))
@@ -254,14 +255,14 @@ unfolding first_some
 some_items f g [] h = refl
 some_items {B = B} f g (x ∷ xs) h = ap2 (λ (x y : Option B). elim x as (λ _. Option B) [ Some v ↦ Some v | None ↦ y ]) (h x) (some_items f g xs h)
 
-some_found : (f : ℕ → Bool) (a n : ℕ) → first_some (λ t. mapped (λ k. act.Go (record { 0 = k })) (if f t then Some t else None)) (range_with_len a n) ≡ mapped (λ k. act.Go (record { 0 = k })) (find f (range_with_len a n))
-unfolding first_some mapped
+some_found : (f : ℕ → Bool) (a n : ℕ) → first_some (λ t. option_map (λ k. act.Go (record { 0 = k })) (if f t then Some t else None)) (range_with_len a n) ≡ option_map (λ k. act.Go (record { 0 = k })) (find f (range_with_len a n))
+unfolding first_some
 some_found f a zero = refl
 some_found f a (suc n) = by (f a) (some_found f (a + 1) n)
   where
-    by : (b : Bool) → first_some (λ t. mapped (λ k. act.Go (record { 0 = k })) (if f t then Some t else None)) (range_with_len (a + 1) n) ≡ mapped (λ k. act.Go (record { 0 = k })) (find f (range_with_len (a + 1) n)) →
-        (elim (mapped (λ k. act.Go (record { 0 = k })) (if b then Some a else None)) as (λ _. Option Act) [ Some v ↦ Some v | None ↦ first_some (λ t. mapped (λ k. act.Go (record { 0 = k })) (if f t then Some t else None)) (range_with_len (a + 1) n) ])
-        ≡ mapped (λ k. act.Go (record { 0 = k })) (cond b (Some a) (find f (range_with_len (a + 1) n)))
+    by : (b : Bool) → first_some (λ t. option_map (λ k. act.Go (record { 0 = k })) (if f t then Some t else None)) (range_with_len (a + 1) n) ≡ option_map (λ k. act.Go (record { 0 = k })) (find f (range_with_len (a + 1) n)) →
+        (elim (option_map (λ k. act.Go (record { 0 = k })) (if b then Some a else None)) as (λ _. Option Act) [ Some v ↦ Some v | None ↦ first_some (λ t. option_map (λ k. act.Go (record { 0 = k })) (if f t then Some t else None)) (range_with_len (a + 1) n) ])
+        ≡ option_map (λ k. act.Go (record { 0 = k })) (cond b (Some a) (find f (range_with_len (a + 1) n)))
     by true again = refl
     by false again = again
 
@@ -274,26 +275,26 @@ resume_by_rows s past _ = refl
 -- the rows say which call a thread of a service takes
 pub take_by_rows : (past : Past) (d k : ℕ) → take_at past d k ≡ take_by (thread_rows past d) (call_rows past) (waiting_calls past) k
 unfolding take_at idle_thread
-take_by_rows past d k = ap2 (λ (o w : Option ℕ). if is_some o then mapped (λ c. act.Take (record { 0 = c })) w else None) (thread_by_rows past d (is_idle_for k)) (head_by_rows past k)
+take_by_rows past d k = ap2 (λ (o w : Option ℕ). if is_some o then option_map (λ c. act.Take (record { 0 = c })) w else None) (thread_by_rows past d (is_idle_for k)) (head_by_rows past k)
 
 -- the rows say a domain's first choice
 pub choice_by_rows : (s : System) (past : Past) (d : ℕ) → first_choice past d ≡ choice_by (domain_rows s past) (thread_rows past d) (call_rows past) (waiting_calls past) (service_threads past d) d
-unfolding first_choice first_of_choices resume_at go_at going_thread threads_of thread_where thread_rows and_then
+unfolding first_choice first_of_choices resume_at go_at going_thread threads_of thread_where thread_rows
 choice_by_rows s past d =
     ap2 (λ (b : Bool) (o : Option Act). if b then o else None)
     (ap2 (λ (b : Bool) (o : Option ℕ). b && is_none o) (lives_by_rows s past d) (running_by_rows s past d))
-    (ap3 (λ (x y z : Option Act). or_else x (or_else y z)) resumes takes goes)
+    (ap3 (λ (x y z : Option Act). option_or x (option_or y z)) resumes takes goes)
   where
     resumes : first_some (resume_at past d) (threads_of past d) ≡ first_some (λ row. resume_by (domain_rows s past) (call_rows past) row.state) (thread_rows past d)
     resumes =
         some_range (resume_at past d) (λ (row : ThreadRow). resume_by (domain_rows s past) (call_rows past) row.state) (thread_row past d) 0 (length (service_threads past d) + 1)
-        (λ t l u. ap (λ (o : Option ThreadState). and_then o (resume_in past)) (state_by_row past d t (omega (arith, u))) ∙ resume_by_rows s past (thread_row past d t).state)
+        (λ t l u. ap (λ (o : Option ThreadState). option_and_then (resume_in past) o) (state_by_row past d t (omega (arith, u))) ∙ resume_by_rows s past (thread_row past d t).state)
 
     takes : first_some (λ k. take_at past d k.0) (service_threads past d) ≡ first_some (λ k. take_by (thread_rows past d) (call_rows past) (waiting_calls past) k.0) (service_threads past d)
     takes = some_items (λ (k : ServiceId). take_at past d k.0) (λ (k : ServiceId). take_by (thread_rows past d) (call_rows past) (waiting_calls past) k.0) (service_threads past d) (λ k. take_by_rows past d k.0)
 
-    goes : first_some (go_at past d) (threads_of past d) ≡ mapped (λ t. act.Go (record { 0 = t })) (thread_in (thread_rows past d) is_yielded)
-    goes = some_found (λ t. passes is_yielded (thread_state past d t)) 0 (length (service_threads past d) + 1) ∙ ap (mapped (λ t. act.Go (record { 0 = t }))) (thread_by_rows past d is_yielded)
+    goes : first_some (go_at past d) (threads_of past d) ≡ option_map (λ t. act.Go (record { 0 = t })) (thread_in (thread_rows past d) is_yielded)
+    goes = some_found (λ t. passes is_yielded (thread_state past d t)) 0 (length (service_threads past d) + 1) ∙ ap (option_map (λ t. act.Go (record { 0 = t }))) (thread_by_rows past d is_yielded)
 
 -- ---- who can act
 

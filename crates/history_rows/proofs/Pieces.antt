@@ -6,7 +6,7 @@ use Rattle.jx_base.specs.declared.act.Reason.{Reason}
 use Rattle.jx_base.specs.declared.act.Entry.{Entry}
 use Rattle.jx_base.specs.declared.states.DomainState.{DomainState}
 use Rattle.jx_base.specs.declared.program.System.{System}
-use Rattle.jx_base.specs.Basics.{up_to, numbered, passes, or_zero, mapped, and_then}
+use Rattle.jx_base.specs.Basics.{up_to, numbered, passes}
 use Rattle.program_model.specs.Limits.{granule_limit}
 use Rattle.jx_base.specs.Histories.{Past, is_done}
 use Rattle.jx_model.specs.Domains.{is_live, is_birth, domains_made, birth_of, template_of, heap_place_of, named_template, reply_granule, ended_by, end_reason, reason_for}
@@ -29,6 +29,7 @@ use Rattle.history_rows.proofs.ExtentRows.{extents_freed, granules_after_birth, 
 use Rattle.history_rows.proofs.Freed.{freed_runs, granules_after_freeing}
 use Rattle.history_rows.proofs.Permission.{numbered_row}
 use Rattle.history_rows.proofs.Every.{each_from, each_row, each_map, changed_at, set_changed, portals_after, services_every, object_row_after, objects_every, objects_every_new}
+use Rattle.std.specs.Option.{option_and_then, option_map, unwrap_or}
 
 -- ---- extents in use, by the rows
 
@@ -55,7 +56,7 @@ in_use_by_rows past x =
 
 -- the run of a new domain's heap
 abbrev pub born_run : System → Entry → Run
-born_run s e = (reply_granule e.reply, or_zero (mapped (heap_granules s) (named_template s e.act)))
+born_run s e = (reply_granule e.reply, unwrap_or (option_map (heap_granules s) (named_template s e.act)) 0)
 
 -- the run of a new extent
 abbrev pub allocated_run : Entry → Run
@@ -137,9 +138,9 @@ module _ (s : System) (k : Kept) (e : Entry) (h : StandsFor s k) (n : IsNext s k
       ∙ sym (granules_after_freeing s e k.past (n, h.admitted) b x)
 
   born_run_is : is_birth e ≡ true → heap_run s (e ∷ k.past) (domains_made k.past + 1) ≡ born_run s e
-  unfolding heap_run heap_place_of template_of birth_of mapped and_then or_zero
+  unfolding heap_run heap_place_of template_of birth_of
   born_run_is b =
-      ap (λ (o : Option Entry). let r : Run = (or_zero (mapped (λ e. reply_granule e.reply) o), or_zero (mapped (heap_granules s) (and_then o (λ e. named_template s e.act)))) in r)
+      ap (λ (o : Option Entry). let r : Run = (unwrap_or (option_map (λ e. reply_granule e.reply) o) 0, unwrap_or (option_map (heap_granules s) (option_and_then (λ e. named_template s e.act) o)) 0) in r)
       (nth_new is_birth e k.past (domains_made k.past + 1) b refl)
 
   born_lives : is_birth e ≡ true → ended_by e ≡ None → is_live (e ∷ k.past) (domains_made k.past + 1) ≡ true

@@ -18,7 +18,7 @@ use Rattle.jx_base.specs.declared.value.Parcel.{Parcel}
 use Rattle.jx_base.specs.declared.value.Word.{Word}
 use Rattle.jx_base.specs.declared.value.Word.TheVariants as word
 use Rattle.jx_base.specs.declared.program.System.{System}
-use Rattle.jx_base.specs.Basics.{contains_number, is_number, passes, and_then}
+use Rattle.jx_base.specs.Basics.{contains_number, is_number, passes}
 use Rattle.program_model.specs.ParcelParts.{parcel_portals, parcel_cells, word_portal}
 use Rattle.jx_base.specs.Histories.{Past, is_own, is_done, nth_entry}
 use Rattle.jx_model.specs.Domains.{is_live}
@@ -30,6 +30,7 @@ use Rattle.jx_model.specs.Legal.{IsNext, IsAdmittedPast}
 use Rattle.jx_base.proofs.BasicLaws.{both, eq_of, ap2}
 use Rattle.jx_base.proofs.NthEntries.{nth_passes, count_new, count_grows}
 use Rattle.history_rows.proofs.Uses.{undone, turned}
+use Rattle.std.specs.Option.{option_and_then}
 
 -- ---- portals in parcels
 
@@ -48,10 +49,10 @@ exported_stays e past k h = record { low = h.low; high = omega (arith, h.high, s
 
 -- a service with an interface was made
 pub interface_made : (past : Past) (k : ℕ) (c : ClassId) → interface_of past k ≡ Some c → IsExported past k
-unfolding interface_of export_of and_then
+unfolding interface_of export_of
 interface_made past k c h = by (nth_entry is_export past k) refl h
   where
-    by : (o : Option Entry) → nth_entry is_export past k ≡ o → and_then o (λ e. exported_interface e.act e.reply) ≡ Some c → IsExported past k
+    by : (o : Option Entry) → nth_entry is_export past k ≡ o → option_and_then (λ e. exported_interface e.act e.reply) o ≡ Some c → IsExported past k
     by None q h = cc
     by (Some e) q h = let x = nth_passes is_export past k e q in record { low = x.1; high = x.2 }
 
@@ -96,12 +97,12 @@ asked_well s e past a n h = by e.act n.well_made h
 
 -- the portals that a call asks with are to services that were made
 pub asked_made_of : (s : System) (past : Past) (c : ℕ) (a : Asked) (k : ℕ) → IsAdmittedPast s past → asked_of past c ≡ Some a → contains_number (parcel_portals a.parcel) k ≡ true → IsExported past k
-unfolding asked_of call_entry nth_entry and_then
+unfolding asked_of call_entry nth_entry
 asked_made_of s [] c a k h q i = cc
 asked_made_of s (e ∷ past) c a k h q i = by (is_call e && (c == calls_made past + 1)) q (asked_made_of s past c a k h.1)
   where
-    by : (b : Bool) → and_then (elim b as (λ _. Option Entry) [ true ↦ Some e | false ↦ nth_entry is_call past c ]) (λ e. asked_by e.act) ≡ Some a →
-        (and_then (nth_entry is_call past c) (λ e. asked_by e.act) ≡ Some a → contains_number (parcel_portals a.parcel) k ≡ true → IsExported past k) → IsExported (e ∷ past) k
+    by : (b : Bool) → option_and_then (λ e. asked_by e.act) (elim b as (λ _. Option Entry) [ true ↦ Some e | false ↦ nth_entry is_call past c ]) ≡ Some a →
+        (option_and_then (λ e. asked_by e.act) (nth_entry is_call past c) ≡ Some a → contains_number (parcel_portals a.parcel) k ≡ true → IsExported past k) → IsExported (e ∷ past) k
     by true q again = exported_stays e past k (parcel_made s past a.parcel k (asked_well s e past a h.0 q) i)
     by false q again = exported_stays e past k (again q i)
 
@@ -178,8 +179,8 @@ unfolding job_of
 job_portal None s m p q = cc
 job_portal (Some a) s m p q = (a, refl, let z : p ≡ a.parcel = cc in sym z)
 
-value_portal : (o : Option Answer) (p : Parcel) → reply.Value p ≡ or_done (and_then o answer_reply) → o ≡ Some (Answer.Value p)
-unfolding or_done and_then answer_reply
+value_portal : (o : Option Answer) (p : Parcel) → reply.Value p ≡ or_done (option_and_then answer_reply o) → o ≡ Some (Answer.Value p)
+unfolding or_done answer_reply
 value_portal None p q = cc
 value_portal (Some (Answer.Value x)) p q = let z : p ≡ x = cc in ap (λ (y : Parcel). Some (Answer.Value y)) (sym z)
 value_portal (Some (Answer.Thrown x)) p q = cc
@@ -187,8 +188,8 @@ value_portal (Some Answer.CopyFailed) p q = cc
 value_portal (Some Answer.Ended) p q = cc
 value_portal (Some Answer.Discarded) p q = cc
 
-thrown_portal : (o : Option Answer) (p : Parcel) → reply.Thrown p ≡ or_done (and_then o answer_reply) → o ≡ Some (Answer.Thrown p)
-unfolding or_done and_then answer_reply
+thrown_portal : (o : Option Answer) (p : Parcel) → reply.Thrown p ≡ or_done (option_and_then answer_reply o) → o ≡ Some (Answer.Thrown p)
+unfolding or_done answer_reply
 thrown_portal None p q = cc
 thrown_portal (Some (Answer.Value x)) p q = cc
 thrown_portal (Some (Answer.Thrown x)) p q = let z : p ≡ x = cc in ap (λ (y : Parcel). Some (Answer.Thrown y)) (sym z)

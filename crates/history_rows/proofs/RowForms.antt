@@ -4,7 +4,7 @@ use Rattle.std.specs.List.{range_with_len, cons_option}
 use Rattle.jx_base.specs.declared.act.Entry.{Entry}
 use Rattle.jx_base.specs.declared.act.Reason.{Reason}
 use Rattle.jx_base.specs.declared.program.System.{System}
-use Rattle.jx_base.specs.Basics.{up_to, mapped, and_then, is_number, or_zero}
+use Rattle.jx_base.specs.Basics.{up_to, is_number}
 use Rattle.jx_base.specs.Histories.{Past}
 use Rattle.jx_model.specs.Domains.{is_live, domains_made, ended_by}
 use Rattle.jx_model.specs.Portals.{owner_of}
@@ -21,6 +21,7 @@ use Rattle.history_rows.proofs.Freed.{is_heap_freed, is_extent_freed}
 use Rattle.history_rows.proofs.Pieces.{in_use_by, in_use_by_rows}
 use Rattle.history_rows.proofs.RowReads.{in_use_by_row}
 use Rattle.jx_model.specs.MemoryObjects.{objects_of, extents_made}
+use Rattle.std.specs.Option.{option_and_then, option_map, unwrap_or}
 
 -- ---- services of a domain
 
@@ -40,18 +41,18 @@ ended_calls_by_rows past d calls = map_tests (ended_call (owned_by past d) d) (e
     ended row q = ap (λ (b : Bool). ended_call (λ k. b) d row) q
 
 zero_owner : (past : Past) (d : ℕ) → owned_by past d 0 ≡ false
-unfolding owner_of mapped is_number
-zero_owner past d = ap (λ (o : Option Entry). is_number (mapped (λ e. e.domain.0) o) d) (no_export past 0 (inl refl))
+unfolding owner_of is_number
+zero_owner past d = ap (λ (o : Option Entry). is_number (option_map (λ e. e.domain.0) o) d) (no_export past 0 (inl refl))
 
 -- the waiting calls after the end of a domain, by the rows
 pub ended_waiting_by_rows : (past : Past) (d : ℕ) (waiting : List ℕ) →
-    filter (λ c. not (owned_by past d (or_zero (service_of_call past c)))) waiting ≡ filter (λ c. not (is_number (and_then (service_in (call_rows past) c) (owner_in (service_rows past))) d)) waiting
-unfolding and_then or_zero is_number
+    filter (λ c. not (owned_by past d (unwrap_or (service_of_call past c) 0))) waiting ≡ filter (λ c. not (is_number (option_and_then (owner_in (service_rows past)) (service_in (call_rows past) c)) d)) waiting
+unfolding is_number
 ended_waiting_by_rows past d waiting =
-    filter_tests (λ c. not (owned_by past d (or_zero (service_of_call past c)))) (λ c. not (is_number (and_then (service_in (call_rows past) c) (owner_in (service_rows past))) d)) waiting (λ c.
-    ap not (by (service_of_call past c) ∙ ap (λ (o : Option ℕ). is_number (and_then o (owner_in (service_rows past))) d) (service_by_rows past c)))
+    filter_tests (λ c. not (owned_by past d (unwrap_or (service_of_call past c) 0))) (λ c. not (is_number (option_and_then (owner_in (service_rows past)) (service_in (call_rows past) c)) d)) waiting (λ c.
+    ap not (by (service_of_call past c) ∙ ap (λ (o : Option ℕ). is_number (option_and_then (owner_in (service_rows past)) o) d) (service_by_rows past c)))
   where
-    by : (o : Option ℕ) → owned_by past d (or_zero o) ≡ is_number (and_then o (owner_in (service_rows past))) d
+    by : (o : Option ℕ) → owned_by past d (unwrap_or o 0) ≡ is_number (option_and_then (owner_in (service_rows past)) o) d
     by None = zero_owner past d
     by (Some k) = owned_by_row past d k
 

@@ -10,7 +10,7 @@ use Rattle.jx_base.specs.declared.act.Reply.TheVariants as reply
 use Rattle.jx_base.specs.declared.act.Entry.{Entry}
 use Rattle.jx_base.specs.declared.states.DomainState.{DomainState}
 use Rattle.jx_base.specs.declared.program.System.{System}
-use Rattle.jx_base.specs.Basics.{up_to, numbered, mapped, and_then, passes, or_zero, contains_number}
+use Rattle.jx_base.specs.Basics.{up_to, numbered, passes, contains_number}
 use Rattle.program_model.specs.Limits.{granule_limit}
 use Rattle.jx_base.specs.Histories.{Past, nth_entry, count_where}
 use Rattle.jx_model.specs.Domains.{is_live, is_birth, makes_domain, domains_made, birth_of, heap_place_of, creator_of, template_of, named_template}
@@ -37,6 +37,7 @@ use Rattle.history_rows.proofs.Granules.{fits_spawn}
 use Rattle.history_rows.proofs.ServiceRows.{was_handed}
 use Rattle.history_rows.proofs.Permission.{lives_in, lives_by_rows, numbered_row, no_row, unmade_entry}
 use Rattle.history_rows.proofs.Acting.{by_number, owner_in, owner_by_rows, no_export, at_most, beyond}
+use Rattle.std.specs.Option.{option_and_then, option_map, unwrap_or}
 
 -- ---- domains
 
@@ -49,20 +50,19 @@ no_birth past d (inl q) = by (nth_entry is_birth past d) refl
     by None z = refl
     by (Some x) z = absurd (omega (arith, (nth_passes is_birth past d x z).1, q))
 
-some_again : (o : Option ℕ) → is_some o ≡ true → o ≡ Some (or_zero o)
-unfolding or_zero
+some_again : (o : Option ℕ) → is_some o ≡ true → o ≡ Some (unwrap_or o 0)
 some_again None h = cc
 some_again (Some x) h = refl
 
 -- the rows say who made a domain
-pub creator_by_rows : (s : System) (past : Past) (d : ℕ) → creator_of past d ≡ mapped (λ row. row.creator.0) (numbered (domain_rows s past) d)
-unfolding domain_rows domain_row creator_of mapped birth_of
+pub creator_by_rows : (s : System) (past : Past) (d : ℕ) → creator_of past d ≡ option_map (λ row. row.creator.0) (numbered (domain_rows s past) d)
+unfolding domain_rows domain_row creator_of birth_of
 creator_by_rows s past d =
     by_number (domain_row s past) (λ (row : DomainState). row.creator.0) (domains_made past) d (creator_of past d)
     (λ l u. some_again (creator_of past d) (there (nth_entry is_birth past d) (nth_there is_birth past d l u)))
-    (λ h. ap (mapped (λ (e : Entry). e.domain.0)) (no_birth past d h))
+    (λ h. ap (option_map (λ (e : Entry). e.domain.0)) (no_birth past d h))
   where
-    there : (o : Option Entry) → is_some o ≡ true → is_some (mapped (λ (e : Entry). e.domain.0) o) ≡ true
+    there : (o : Option Entry) → is_some o ≡ true → is_some (option_map (λ (e : Entry). e.domain.0) o) ≡ true
     there None h = cc
     there (Some x) h = refl
 
@@ -88,22 +88,22 @@ template_there s (e ∷ past) d x a h = by (is_birth e && (d == domains_made pas
     by false q h again = again h
 
 -- the rows say a domain's template
-pub template_by_rows : (s : System) (past : Past) (d : ℕ) → IsAdmittedPast s past → template_of s past d ≡ mapped (λ row. row.template) (numbered (domain_rows s past) d)
-unfolding domain_rows domain_row template_of and_then
+pub template_by_rows : (s : System) (past : Past) (d : ℕ) → IsAdmittedPast s past → template_of s past d ≡ option_map (λ row. row.template) (numbered (domain_rows s past) d)
+unfolding domain_rows domain_row template_of
 template_by_rows s past d a =
     by_number (domain_row s past) (λ (row : DomainState). row.template) (domains_made past) d (template_of s past d)
     (λ l u. some_again (template_of s past d) (there (birth_of past d) refl (birth_there past d l u)))
-    (λ h. ap (λ (o : Option Entry). and_then o (λ e. named_template s e.act)) (no_birth past d h))
+    (λ h. ap (λ (o : Option Entry). option_and_then (λ e. named_template s e.act) o) (no_birth past d h))
   where
-    there : (o : Option Entry) → birth_of past d ≡ o → is_some o ≡ true → is_some (and_then o (λ e. named_template s e.act)) ≡ true
+    there : (o : Option Entry) → birth_of past d ≡ o → is_some o ≡ true → is_some (option_and_then (λ e. named_template s e.act) o) ≡ true
     there None q h = cc
     there (Some x) q h = template_there s past d x a q
 
 -- ---- services
 
 -- the rows say a service's interface
-pub interface_by_rows : (past : Past) (k : ℕ) → interface_of past k ≡ and_then (numbered (service_rows past) k) (λ row. row.interface)
-unfolding service_rows service_row interface_of and_then
+pub interface_by_rows : (past : Past) (k : ℕ) → interface_of past k ≡ option_and_then (λ row. row.interface) (numbered (service_rows past) k)
+unfolding service_rows service_row interface_of
 interface_by_rows past k = by (nat_lt 0 k) refl (nat_le k (services_made past)) refl
   where
     some : (c : ℕ) → nat_lt 0 c ≡ true → 1 ≤ c
@@ -112,13 +112,13 @@ interface_by_rows past k = by (nat_lt 0 k) refl (nat_le k (services_made past)) 
     zeroth : (c : ℕ) → nat_lt 0 c ≡ false → c ≡ 0
     zeroth c q = grind (arith, nat_tests)
 
-    none : (k ≡ 0) ⊎ (services_made past < k) → interface_of past k ≡ and_then (numbered (map (service_row past) (up_to (services_made past))) k) (λ row. row.interface)
-    none h = ap (λ (o : Option Entry). and_then o (λ e. exported_interface e.act e.reply)) (no_export past k h) ∙ sym (ap (λ (o : Option ServiceRow). and_then o (λ row. row.interface)) (no_row (service_row past) (services_made past) k h))
+    none : (k ≡ 0) ⊎ (services_made past < k) → interface_of past k ≡ option_and_then (λ row. row.interface) (numbered (map (service_row past) (up_to (services_made past))) k)
+    none h = ap (λ (o : Option Entry). option_and_then (λ e. exported_interface e.act e.reply) o) (no_export past k h) ∙ sym (ap (λ (o : Option ServiceRow). option_and_then (λ row. row.interface) o) (no_row (service_row past) (services_made past) k h))
 
-    by : (x : Bool) → nat_lt 0 k ≡ x → (y : Bool) → nat_le k (services_made past) ≡ y → interface_of past k ≡ and_then (numbered (map (service_row past) (up_to (services_made past))) k) (λ row. row.interface)
+    by : (x : Bool) → nat_lt 0 k ≡ x → (y : Bool) → nat_le k (services_made past) ≡ y → interface_of past k ≡ option_and_then (λ row. row.interface) (numbered (map (service_row past) (up_to (services_made past))) k)
     by false q y r = none (inl (zeroth k q))
     by true q false r = none (inr (beyond k (services_made past) r))
-    by true q true r = sym (ap (λ (o : Option ServiceRow). and_then o (λ row. row.interface)) (numbered_row (service_row past) (services_made past) k (some k q) (at_most k (services_made past) r)))
+    by true q true r = sym (ap (λ (o : Option ServiceRow). option_and_then (λ row. row.interface) o) (numbered_row (service_row past) (services_made past) k (some k q) (at_most k (services_made past) r)))
 
 passes_same : (o : Option ℕ) (f g : ℕ → Bool) → ((k : ℕ) → f k ≡ g k) → passes f o ≡ passes g o
 unfolding passes
@@ -207,11 +207,11 @@ portal_by_rows s past d k a =
 
 -- the rows say whether a call's caller lives
 pub live_caller_by_rows : (s : System) (past : Past) (c : ℕ) → has_live_caller past c ≡ passes (λ row. lives_in (domain_rows s past) row.caller) (numbered (call_rows past) c)
-unfolding call_rows call_row has_live_caller caller_of passes mapped
+unfolding call_rows call_row has_live_caller caller_of passes
 live_caller_by_rows s past c =
     test_by_number (call_row past) (λ (row : CallRow). lives_in (domain_rows s past) row.caller) (calls_made past) c (has_live_caller past c)
-    (λ l u. ap (passes (is_live past)) (call_caller_there past c l u) ∙ lives_by_rows s past (or_zero (caller_of past c)))
-    (λ h. ap (λ (o : Option Entry). passes (is_live past) (mapped (λ e. e.domain.0) o)) (unmade_entry past c h))
+    (λ l u. ap (passes (is_live past)) (call_caller_there past c l u) ∙ lives_by_rows s past (unwrap_or (caller_of past c) 0))
+    (λ h. ap (λ (o : Option Entry). passes (is_live past) (option_map (λ e. e.domain.0) o)) (unmade_entry past c h))
 
 -- no object has the number 0
 zero_invalid : (past : Past) → is_valid past 0 ≡ false
@@ -304,14 +304,14 @@ fit_by_flags s past n =
 
 -- a domain's row says its heap's granules
 pub heap_run_by_row : (s : System) (past : Past) (d : ℕ) → IsAdmittedPast s past → 1 ≤ d → d ≤ domains_made past → heap_run s past d ≡ (let row : DomainState = domain_row s past d in (row.at, heap_granules s row.template))
-unfolding heap_run domain_row template_of and_then or_zero mapped
-heap_run_by_row s past d a l u = ap (λ (n : ℕ). let r : Run = (or_zero (heap_place_of past d), n) in r) (by (template_of s past d) (there (birth_of past d) refl (birth_there past d l u)))
+unfolding heap_run domain_row template_of
+heap_run_by_row s past d a l u = ap (λ (n : ℕ). let r : Run = (unwrap_or (heap_place_of past d) 0, n) in r) (by (template_of s past d) (there (birth_of past d) refl (birth_there past d l u)))
   where
     there : (o : Option Entry) → birth_of past d ≡ o → is_some o ≡ true → is_some (template_of s past d) ≡ true
     there None q h = cc
-    there (Some x) q h = ap (λ (o : Option Entry). is_some (and_then o (λ e. named_template s e.act))) q ∙ template_there s past d x a q
+    there (Some x) q h = ap (λ (o : Option Entry). is_some (option_and_then (λ e. named_template s e.act) o)) q ∙ template_there s past d x a q
 
-    by : (o : Option ℕ) → is_some o ≡ true → or_zero (mapped (heap_granules s) o) ≡ heap_granules s (or_zero o)
+    by : (o : Option ℕ) → is_some o ≡ true → unwrap_or (option_map (heap_granules s) o) 0 ≡ heap_granules s (unwrap_or o 0)
     by None h = cc
     by (Some t) h = refl
 

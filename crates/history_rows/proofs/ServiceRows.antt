@@ -7,7 +7,7 @@ use Rattle.jx_base.specs.declared.act.Reply.{Reply}
 use Rattle.jx_base.specs.declared.act.Reason.{Reason}
 use Rattle.jx_base.specs.declared.act.Entry.{Entry}
 use Rattle.jx_base.specs.declared.program.System.{System}
-use Rattle.jx_base.specs.Basics.{up_to, or_zero, mapped, and_then, passes, is_number, contains_number}
+use Rattle.jx_base.specs.Basics.{up_to, passes, is_number, contains_number}
 use Rattle.jx_base.specs.Histories.{Past, is_own, nth_entry}
 use Rattle.jx_model.specs.Domains.{is_live, is_birth, domains_made, ended_by}
 use Rattle.jx_model.specs.Portals.{is_export, exported_interface, services_made, export_of, owner_of, interface_of, has_live_owner, gives_portal, holds_portal, bound_by_act, last_bound, bound_service}
@@ -23,6 +23,7 @@ use Rattle.history_rows.proofs.Stages.{live_after}
 use Rattle.history_rows.proofs.Holders.{with_number, contains_kept}
 use Rattle.history_rows.proofs.ObjectRows.{filter_single}
 use Rattle.history_rows.proofs.PortalsMade.{given_none, bound_made}
+use Rattle.std.specs.Option.{option_and_then, option_map, unwrap_or}
 
 -- ---- who holds a portal
 
@@ -129,21 +130,21 @@ portal_holders_after_gift s e past k n b z g =
 -- a service that was made before keeps its owner
 pub owner_old : (e : Entry) (past : Past) (k : ℕ) → k ≤ services_made past → owner_of (e ∷ past) k ≡ owner_of past k
 unfolding owner_of export_of
-owner_old e past k u = ap (mapped (λ e. e.domain.0)) (nth_old is_export e past k (λ q. omega (arith, q, u)))
+owner_old e past k u = ap (option_map (λ e. e.domain.0)) (nth_old is_export e past k (λ q. omega (arith, q, u)))
 
 -- and its interface
 pub service_row_old : (e : Entry) (past : Past) (k : ℕ) → k ≤ services_made past → service_row (e ∷ past) k ≡ record (service_row past k) { holders = portal_holders (e ∷ past) k }
 unfolding service_row owner_of interface_of export_of
 service_row_old e past k u =
-    ap (λ (o : Option Entry). let row : ServiceRow = record { owner = or_zero (mapped (λ e. e.domain.0) o); interface = and_then o (λ e. exported_interface e.act e.reply); holders = portal_holders (e ∷ past) k } in row)
+    ap (λ (o : Option Entry). let row : ServiceRow = record { owner = unwrap_or (option_map (λ e. e.domain.0) o) 0; interface = option_and_then (λ e. exported_interface e.act e.reply) o; holders = portal_holders (e ∷ past) k } in row)
     (nth_old is_export e past k (λ q. omega (arith, q, u)))
 
 -- the row of a service that an entry makes
 pub service_row_new : (s : System) (e : Entry) (past : Past) → IsAdmittedPast s (e ∷ past) → is_export e ≡ true → gives_portal (services_made past + 1) e ≡ true → is_birth e ≡ false → ended_by e ≡ None → is_live past e.domain.0 ≡ true →
     service_row (e ∷ past) (services_made past + 1) ≡ record { owner = e.domain.0; interface = exported_interface e.act e.reply; holders = e.domain.0 ∷ [] }
-unfolding service_row owner_of interface_of export_of mapped and_then or_zero up_to is_own ends_domain
+unfolding service_row owner_of interface_of export_of up_to is_own ends_domain
 service_row_new s e past a x g b z v =
-    ap2 (λ (o : Option Entry) (hs : List ℕ). let row : ServiceRow = record { owner = or_zero (mapped (λ e. e.domain.0) o); interface = and_then o (λ e. exported_interface e.act e.reply); holders = hs } in row)
+    ap2 (λ (o : Option Entry) (hs : List ℕ). let row : ServiceRow = record { owner = unwrap_or (option_map (λ e. e.domain.0) o) 0; interface = option_and_then (λ e. exported_interface e.act e.reply) o; holders = hs } in row)
     (nth_new is_export e past (services_made past + 1) x refl)
     (ap (λ (n : ℕ). filter (λ d. holds_portal (e ∷ past) d (services_made past + 1)) (range_with_len 1 n)) (count_same is_birth e past b)
     ∙ filter_range (λ d. holds_portal (e ∷ past) d (services_made past + 1)) (λ d. e.domain.0 == d) 1 (domains_made past) (λ d l u. one d l (omega (arith, u)))
@@ -198,12 +199,12 @@ exporting _ r h = cc
 
 -- the owner of a service that was made was made
 pub owner_made : (s : System) (past : Past) (k d : ℕ) → IsAdmittedPast s past → owner_of past k ≡ Some d → IsMade past d
-unfolding owner_of export_of nth_entry mapped is_export
+unfolding owner_of export_of nth_entry is_export
 owner_made s [] k d a h = cc
 owner_made s (e ∷ past) k d a h = by (is_export e && (k == services_made past + 1)) refl h (owner_made s past k d a.1)
   where
-    by : (b : Bool) → (is_export e && (k == services_made past + 1)) ≡ b → mapped (λ e. e.domain.0) (elim b as (λ _. Option Entry) [ true ↦ Some e | false ↦ nth_entry is_export past k ]) ≡ Some d →
-        (mapped (λ e. e.domain.0) (nth_entry is_export past k) ≡ Some d → IsMade past d) → IsMade (e ∷ past) d
+    by : (b : Bool) → (is_export e && (k == services_made past + 1)) ≡ b → option_map (λ e. e.domain.0) (elim b as (λ _. Option Entry) [ true ↦ Some e | false ↦ nth_entry is_export past k ]) ≡ Some d →
+        (option_map (λ e. e.domain.0) (nth_entry is_export past k) ≡ Some d → IsMade past d) → IsMade (e ∷ past) d
     by true q h again =
         let x = exporting e.act e.reply (both (is_export e) (k == services_made past + 1) q).0 in
         let z : e.domain.0 ≡ d = cc in
@@ -221,12 +222,12 @@ live_owner_after s e past k a u = ap (passes (is_live (e ∷ past))) (owner_old 
 
 -- a name that the entry doesn't bind, where it ends nobody
 pub name_same : (s : System) (e : Entry) (past : Past) (name : List ℕ) → IsAdmittedPast s past → bound_by_act name e.act e.reply ≡ None → ended_by e ≡ None → bound_service (e ∷ past) name ≡ bound_service past name
-unfolding bound_service last_bound and_then ends_domain
+unfolding bound_service last_bound ends_domain
 name_same s e past name a n z =
-    ap (λ (o : Option ℕ). and_then (elim o as (λ _. Option ℕ) [ Some k ↦ Some k | None ↦ last_bound past name ]) (λ k. if has_live_owner (e ∷ past) k then Some k else None)) n
+    ap (λ (o : Option ℕ). option_and_then (λ k. if has_live_owner (e ∷ past) k then Some k else None) (elim o as (λ _. Option ℕ) [ Some k ↦ Some k | None ↦ last_bound past name ])) n
     ∙ by (last_bound past name) refl
   where
-    by : (o : Option ℕ) → last_bound past name ≡ o → and_then o (λ k. if has_live_owner (e ∷ past) k then Some k else None) ≡ and_then o (λ k. if has_live_owner past k then Some k else None)
+    by : (o : Option ℕ) → last_bound past name ≡ o → option_and_then (λ k. if has_live_owner (e ∷ past) k then Some k else None) o ≡ option_and_then (λ k. if has_live_owner past k then Some k else None) o
     by None q = refl
     by (Some k) q =
         ap (λ (b : Bool). if b then Some k else None)
@@ -235,31 +236,31 @@ name_same s e past name a n z =
 -- a name that the entry binds: to the service, if its owner lives
 pub name_after_bind : (s : System) (e : Entry) (past : Past) (name : List ℕ) (k : ℕ) → IsAdmittedPast s past → k ≤ services_made past → bound_by_act name e.act e.reply ≡ Some k → ended_by e ≡ None →
     bound_service (e ∷ past) name ≡ (if has_live_owner past k then Some k else None)
-unfolding bound_service last_bound and_then ends_domain
+unfolding bound_service last_bound ends_domain
 name_after_bind s e past name k a u n z =
-    ap (λ (o : Option ℕ). and_then (elim o as (λ _. Option ℕ) [ Some k ↦ Some k | None ↦ last_bound past name ]) (λ k. if has_live_owner (e ∷ past) k then Some k else None)) n
+    ap (λ (o : Option ℕ). option_and_then (λ k. if has_live_owner (e ∷ past) k then Some k else None) (elim o as (λ _. Option ℕ) [ Some k ↦ Some k | None ↦ last_bound past name ])) n
     ∙ ap (λ (b : Bool). if b then Some k else None)
     (live_owner_after s e past k a u ∙ ap (λ (x : Option (ℕ × Reason)). has_live_owner past k && not (ends_domain x (owner_of past k))) z ∙ and_true (has_live_owner past k))
 
 -- a name after the end of a domain: no longer bound where the service was that domain's
 pub name_after_end : (s : System) (e : Entry) (past : Past) (name : List ℕ) (d : ℕ) (why : Reason) → IsAdmittedPast s past → bound_by_act name e.act e.reply ≡ None → ended_by e ≡ Some (d, why) →
-    bound_service (e ∷ past) name ≡ and_then (bound_service past name) (λ k. if is_number (owner_of past k) d then None else Some k)
-unfolding bound_service last_bound and_then ends_domain
+    bound_service (e ∷ past) name ≡ option_and_then (λ k. if is_number (owner_of past k) d then None else Some k) (bound_service past name)
+unfolding bound_service last_bound ends_domain
 name_after_end s e past name d why a n z =
-    ap (λ (o : Option ℕ). and_then (elim o as (λ _. Option ℕ) [ Some k ↦ Some k | None ↦ last_bound past name ]) (λ k. if has_live_owner (e ∷ past) k then Some k else None)) n
+    ap (λ (o : Option ℕ). option_and_then (λ k. if has_live_owner (e ∷ past) k then Some k else None) (elim o as (λ _. Option ℕ) [ Some k ↦ Some k | None ↦ last_bound past name ])) n
     ∙ by (last_bound past name) refl
   where
-    lost : (x y : Bool) (k : ℕ) → (if x && not y then Some k else None) ≡ and_then (if x then Some k else None) (λ k. if y then None else Some k)
+    lost : (x y : Bool) (k : ℕ) → (if x && not y then Some k else None) ≡ option_and_then (λ k. if y then None else Some k) (if x then Some k else None)
     lost true true k = refl
     lost true false k = refl
     lost false y k = refl
 
-    moved : (x : Bool) (k : ℕ) → and_then (if x then Some k else None) (λ j. if is_number (owner_of past k) d then None else Some j) ≡ and_then (if x then Some k else None) (λ j. if is_number (owner_of past j) d then None else Some j)
+    moved : (x : Bool) (k : ℕ) → option_and_then (λ j. if is_number (owner_of past k) d then None else Some j) (if x then Some k else None) ≡ option_and_then (λ j. if is_number (owner_of past j) d then None else Some j) (if x then Some k else None)
     moved true k = refl
     moved false k = refl
 
     by : (o : Option ℕ) → last_bound past name ≡ o →
-        and_then o (λ k. if has_live_owner (e ∷ past) k then Some k else None) ≡ and_then (and_then o (λ k. if has_live_owner past k then Some k else None)) (λ k. if is_number (owner_of past k) d then None else Some k)
+        option_and_then (λ k. if has_live_owner (e ∷ past) k then Some k else None) o ≡ option_and_then (λ k. if is_number (owner_of past k) d then None else Some k) (option_and_then (λ k. if has_live_owner past k then Some k else None) o)
     by None q = refl
     by (Some k) q =
         ap (λ (b : Bool). if b then Some k else None)

@@ -10,7 +10,7 @@ use Rattle.jx_base.specs.declared.value.Parcel.{Parcel}
 use Rattle.jx_base.specs.declared.program.System.{System}
 use Rattle.jx_base.specs.declared.states.CallState.{CallState}
 use Rattle.jx_base.specs.declared.states.CallState.TheVariants as call
-use Rattle.jx_base.specs.Basics.{mapped, passes, is_number}
+use Rattle.jx_base.specs.Basics.{passes, is_number}
 use Rattle.jx_base.specs.Histories.{Past, nth_entry}
 use Rattle.jx_model.specs.Domains.{is_live, end_reason, ended_by, reason_for}
 use Rattle.jx_model.specs.Threads.{running_thread, thread_where, served_call}
@@ -23,6 +23,7 @@ use Rattle.jx_model.proofs.CallSteps.{entry_made}
 use Rattle.jx_model.proofs.Serving.{in_domain, of_none, served, takes, returns_it, throws_it, unanswered, queued_open, not_ended_yet}
 use Rattle.history_rows.proofs.Rows.{some_of}
 use Rattle.history_rows.proofs.Actors.{IsMade, live_made, made_stays, acts_live, live_by_reason}
+use Rattle.std.specs.Option.{option_map}
 
 chosen : (b : Bool) (t : ℕ) (x : Option ℕ) → (if b then x else None) ≡ Some t → (b ≡ true) × (x ≡ Some t)
 chosen true t x h = (refl, h)
@@ -196,13 +197,13 @@ lives_on e past d m n = live_after e past d m ∙ ap (λ (x : Option (ℕ × Rea
 -- whether the caller lives after an entry
 pub live_caller_after : (s : System) (e : Entry) (past : Past) (c : ℕ) → IsAdmittedPast s past → c ≤ calls_made past →
     has_live_caller (e ∷ past) c ≡ (has_live_caller past c && not (ends_domain (ended_by e) (caller_of past c)))
-unfolding has_live_caller caller_of passes mapped
+unfolding has_live_caller caller_of passes
 live_caller_after s e past c a u =
-    ap (λ (o : Option Entry). passes (is_live (e ∷ past)) (mapped (λ x. x.domain.0) o)) (entry_made e past c u)
+    ap (λ (o : Option Entry). passes (is_live (e ∷ past)) (option_map (λ x. x.domain.0) o)) (entry_made e past c u)
     ∙ by (call_entry past c) refl
   where
     by : (o : Option Entry) → call_entry past c ≡ o →
-        passes (is_live (e ∷ past)) (mapped (λ x. x.domain.0) o) ≡ (passes (is_live past) (mapped (λ x. x.domain.0) o) && not (ends_domain (ended_by e) (mapped (λ x. x.domain.0) o)))
+        passes (is_live (e ∷ past)) (option_map (λ x. x.domain.0) o) ≡ (passes (is_live past) (option_map (λ x. x.domain.0) o) && not (ends_domain (ended_by e) (option_map (λ x. x.domain.0) o)))
     by None q = refl
     by (Some x) q = live_after e past x.domain.0 (caller_made s past c x a q)
 

@@ -16,7 +16,7 @@ use Rattle.jx_base.specs.declared.value.Parcel.{Parcel}
 use Rattle.jx_base.specs.declared.states.CallState.TheVariants as call
 use Rattle.jx_base.specs.declared.states.AnswerKind.{AnswerKind}
 use Rattle.jx_base.specs.declared.program.System.{System}
-use Rattle.jx_base.specs.Basics.{passes, is_number, or_zero, not_below_zero, and_then, contains_number, numbered, mapped, low_byte}
+use Rattle.jx_base.specs.Basics.{passes, is_number, not_below_zero, contains_number, numbered, low_byte}
 use Rattle.program_model.specs.ParcelParts.{parcel_objects}
 use Rattle.jx_base.specs.Histories.{Past, is_done, is_own}
 use Rattle.jx_model.specs.Domains.{is_birth, makes_domain, ended_by, ended_by_act}
@@ -54,6 +54,7 @@ use Rattle.history_rows.proofs.Freed.{freed_runs}
 use Rattle.history_rows.proofs.Kept.{no_drop, keeps_domains, keeps_services, keeps_names, keeps_calls, keeps_waiting, keeps_parts, keeps_objects, keeps_extents, keeps_taken}
 use Rattle.history_rows.proofs.Every.{each_from, each_row, changed_at, set_changed, portals_after, object_row_after}
 use Rattle.history_rows.proofs.Pieces.{in_use_by, domains_born, domains_ended, services_stepped, objects_stepped, objects_beside, each_same, parts_added, extents_counted, extents_stepped, taken_freed, taken_born, born_run, allocated_run, allocated_run_is, taken_allocated}
+use Rattle.std.specs.Option.{option_and_then, option_map, unwrap_or}
 
 both_hold : (x y : Bool) → not (x && y) ≡ false → (x ≡ true) × (y ≡ true)
 both_hold true true h = (refl, refl)
@@ -344,8 +345,8 @@ stands_after_revoke s k d t m new o h n q =
 
 -- a fill of an object of that part
 pub stands_after_fill : (s : System) (k : Kept) (d t : ℕ) (m : ObjectId) (at count : ℤ) (b : ℕ) (o : Part) (i : ℕ) → StandsFor s k → IsNext s k.past (entry d t (act.Fill m at count b) reply.Done) → numbered k.parts m.0 ≡ Some o → o.extent ≡ i + 1 →
-    StandsFor s (record k { past = entry d t (act.Fill m at count b) reply.Done ∷ k.past; extents = changed_at i (λ row. record row { bytes = mapped (written 0 (o.from + not_below_zero at) (not_below_zero count) (λ j. b)) row.bytes }) k.extents })
-unfolding is_birth makes_domain ended_by ended_by_act is_export exported_interface received_service received_parcel bound_by_act is_call asked_by queued_as is_take_of is_resume_of answered_by_act new_parts received_objects objects_in is_drop_of ended_object is_allocation makes_extent is_done new_threads is_choice reply_to object_part mapped extent_row
+    StandsFor s (record k { past = entry d t (act.Fill m at count b) reply.Done ∷ k.past; extents = changed_at i (λ row. record row { bytes = option_map (written 0 (o.from + not_below_zero at) (not_below_zero count) (λ j. b)) row.bytes }) k.extents })
+unfolding is_birth makes_domain ended_by ended_by_act is_export exported_interface received_service received_parcel bound_by_act is_call asked_by queued_as is_take_of is_resume_of answered_by_act new_parts received_objects objects_in is_drop_of ended_object is_allocation makes_extent is_done new_threads is_choice reply_to object_part extent_row
 stands_after_fill s k d t m at count b o i h n q z =
     record {
       admitted = (n, h.admitted);
@@ -373,20 +374,20 @@ stands_after_fill s k d t m at count b o i h n q z =
     used : is_extent_in_use k.past o.extent ≡ true
     used = in_use k.past o.extent m.0 (record { part = o; is = is; extent = refl; valid = held.1; used = ByDomain d held.0 })
 
-    row_is : (let row : ExtentRow = record (extent_row k.past o.extent) { bytes = Some ((written 0 (o.from + not_below_zero at) (not_below_zero count) (λ j. b)) (extent_bytes k.past o.extent)) } in row) ≡ record (extent_row k.past o.extent) { bytes = mapped (written 0 (o.from + not_below_zero at) (not_below_zero count) (λ j. b)) (extent_row k.past o.extent).bytes }
-    row_is = ap (λ (on : Bool). let row : ExtentRow = record (extent_row k.past o.extent) { bytes = mapped (written 0 (o.from + not_below_zero at) (not_below_zero count) (λ j. b)) (kept_bytes on (extent_bytes k.past o.extent)) } in row) (sym used)
+    row_is : (let row : ExtentRow = record (extent_row k.past o.extent) { bytes = Some ((written 0 (o.from + not_below_zero at) (not_below_zero count) (λ j. b)) (extent_bytes k.past o.extent)) } in row) ≡ record (extent_row k.past o.extent) { bytes = option_map (written 0 (o.from + not_below_zero at) (not_below_zero count) (λ j. b)) (extent_row k.past o.extent).bytes }
+    row_is = ap (λ (on : Bool). let row : ExtentRow = record (extent_row k.past o.extent) { bytes = option_map (written 0 (o.from + not_below_zero at) (not_below_zero count) (λ j. b)) (kept_bytes on (extent_bytes k.past o.extent)) } in row) (sym used)
 
-    extents : changed_at i (λ row. record row { bytes = mapped (written 0 (o.from + not_below_zero at) (not_below_zero count) (λ j. b)) row.bytes }) k.extents ≡ extent_rows (entry d t (act.Fill m at count b) reply.Done ∷ k.past)
+    extents : changed_at i (λ row. record row { bytes = option_map (written 0 (o.from + not_below_zero at) (not_below_zero count) (λ j. b)) row.bytes }) k.extents ≡ extent_rows (entry d t (act.Fill m at count b) reply.Done ∷ k.past)
     extents =
-        ap (changed_at i (λ (row : ExtentRow). record row { bytes = mapped (written 0 (o.from + not_below_zero at) (not_below_zero count) (λ j. b)) row.bytes })) h.extents
-        ∙ sym (set_changed i (λ (row : ExtentRow). record row { bytes = mapped (written 0 (o.from + not_below_zero at) (not_below_zero count) (λ j. b)) row.bytes }) (extent_rows k.past) (extent_row k.past o.extent) (extent_row_there k.past o.extent i z made))
+        ap (changed_at i (λ (row : ExtentRow). record row { bytes = option_map (written 0 (o.from + not_below_zero at) (not_below_zero count) (λ j. b)) row.bytes })) h.extents
+        ∙ sym (set_changed i (λ (row : ExtentRow). record row { bytes = option_map (written 0 (o.from + not_below_zero at) (not_below_zero count) (λ j. b)) row.bytes }) (extent_rows k.past) (extent_row k.past o.extent) (extent_row_there k.past o.extent i z made))
         ∙ ap (set (extent_rows k.past) i) (sym row_is)
         ∙ sym (extents_written s (entry d t (act.Fill m at count b) reply.Done) k.past o.extent i ((written 0 (o.from + not_below_zero at) (not_below_zero count) (λ j. b)) (extent_bytes k.past o.extent)) (n, h.admitted) refl refl (no_drop (entry d t (act.Fill m at count b) reply.Done) (λ x. refl)) z made used (bytes_after_fill d t k.past m o at count b is made) (λ y u v. others_after_fill d t k.past m o at count b y is u v))
 
 -- a set in an object of that part
 pub stands_after_set : (s : System) (k : Kept) (d t : ℕ) (m : ObjectId) (at : ℤ) (width : ℕ) (v : ℤ) (o : Part) (i : ℕ) → StandsFor s k → IsNext s k.past (entry d t (act.Set m at width v) reply.Done) → numbered k.parts m.0 ≡ Some o → o.extent ≡ i + 1 →
-    StandsFor s (record k { past = entry d t (act.Set m at width v) reply.Done ∷ k.past; extents = changed_at i (λ row. record row { bytes = mapped (written 0 (o.from + not_below_zero at) width (low_byte v)) row.bytes }) k.extents })
-unfolding is_birth makes_domain ended_by ended_by_act is_export exported_interface received_service received_parcel bound_by_act is_call asked_by queued_as is_take_of is_resume_of answered_by_act new_parts received_objects objects_in is_drop_of ended_object is_allocation makes_extent is_done new_threads is_choice reply_to object_part mapped extent_row
+    StandsFor s (record k { past = entry d t (act.Set m at width v) reply.Done ∷ k.past; extents = changed_at i (λ row. record row { bytes = option_map (written 0 (o.from + not_below_zero at) width (low_byte v)) row.bytes }) k.extents })
+unfolding is_birth makes_domain ended_by ended_by_act is_export exported_interface received_service received_parcel bound_by_act is_call asked_by queued_as is_take_of is_resume_of answered_by_act new_parts received_objects objects_in is_drop_of ended_object is_allocation makes_extent is_done new_threads is_choice reply_to object_part extent_row
 stands_after_set s k d t m at width v o i h n q z =
     record {
       admitted = (n, h.admitted);
@@ -414,20 +415,20 @@ stands_after_set s k d t m at width v o i h n q z =
     used : is_extent_in_use k.past o.extent ≡ true
     used = in_use k.past o.extent m.0 (record { part = o; is = is; extent = refl; valid = held.1; used = ByDomain d held.0 })
 
-    row_is : (let row : ExtentRow = record (extent_row k.past o.extent) { bytes = Some ((written 0 (o.from + not_below_zero at) width (low_byte v)) (extent_bytes k.past o.extent)) } in row) ≡ record (extent_row k.past o.extent) { bytes = mapped (written 0 (o.from + not_below_zero at) width (low_byte v)) (extent_row k.past o.extent).bytes }
-    row_is = ap (λ (on : Bool). let row : ExtentRow = record (extent_row k.past o.extent) { bytes = mapped (written 0 (o.from + not_below_zero at) width (low_byte v)) (kept_bytes on (extent_bytes k.past o.extent)) } in row) (sym used)
+    row_is : (let row : ExtentRow = record (extent_row k.past o.extent) { bytes = Some ((written 0 (o.from + not_below_zero at) width (low_byte v)) (extent_bytes k.past o.extent)) } in row) ≡ record (extent_row k.past o.extent) { bytes = option_map (written 0 (o.from + not_below_zero at) width (low_byte v)) (extent_row k.past o.extent).bytes }
+    row_is = ap (λ (on : Bool). let row : ExtentRow = record (extent_row k.past o.extent) { bytes = option_map (written 0 (o.from + not_below_zero at) width (low_byte v)) (kept_bytes on (extent_bytes k.past o.extent)) } in row) (sym used)
 
-    extents : changed_at i (λ row. record row { bytes = mapped (written 0 (o.from + not_below_zero at) width (low_byte v)) row.bytes }) k.extents ≡ extent_rows (entry d t (act.Set m at width v) reply.Done ∷ k.past)
+    extents : changed_at i (λ row. record row { bytes = option_map (written 0 (o.from + not_below_zero at) width (low_byte v)) row.bytes }) k.extents ≡ extent_rows (entry d t (act.Set m at width v) reply.Done ∷ k.past)
     extents =
-        ap (changed_at i (λ (row : ExtentRow). record row { bytes = mapped (written 0 (o.from + not_below_zero at) width (low_byte v)) row.bytes })) h.extents
-        ∙ sym (set_changed i (λ (row : ExtentRow). record row { bytes = mapped (written 0 (o.from + not_below_zero at) width (low_byte v)) row.bytes }) (extent_rows k.past) (extent_row k.past o.extent) (extent_row_there k.past o.extent i z made))
+        ap (changed_at i (λ (row : ExtentRow). record row { bytes = option_map (written 0 (o.from + not_below_zero at) width (low_byte v)) row.bytes })) h.extents
+        ∙ sym (set_changed i (λ (row : ExtentRow). record row { bytes = option_map (written 0 (o.from + not_below_zero at) width (low_byte v)) row.bytes }) (extent_rows k.past) (extent_row k.past o.extent) (extent_row_there k.past o.extent i z made))
         ∙ ap (set (extent_rows k.past) i) (sym row_is)
         ∙ sym (extents_written s (entry d t (act.Set m at width v) reply.Done) k.past o.extent i ((written 0 (o.from + not_below_zero at) width (low_byte v)) (extent_bytes k.past o.extent)) (n, h.admitted) refl refl (no_drop (entry d t (act.Set m at width v) reply.Done) (λ x. refl)) z made used (bytes_after_set d t k.past m o at width v is made) (λ y u x. others_after_set d t k.past m o at width v y is u x))
 
 -- a copy from one object's part into another's
 pub stands_after_copy : (s : System) (k : Kept) (d t : ℕ) (j : ObjectId) (j_at : ℤ) (m : ObjectId) (at count : ℤ) (source : Part) (o : Part) (i : ℕ) → StandsFor s k → IsNext s k.past (entry d t (act.Copy j j_at m at count) reply.Done) → numbered k.parts m.0 ≡ Some o → o.extent ≡ i + 1 → numbered k.parts j.0 ≡ Some source →
-    StandsFor s (record k { past = entry d t (act.Copy j j_at m at count) reply.Done ∷ k.past; extents = changed_at i (λ row. record row { bytes = mapped (written 0 (o.from + not_below_zero at) (not_below_zero count) (λ x. byte_at k.past source.extent (source.from + (not_below_zero j_at + x)))) row.bytes }) k.extents })
-unfolding is_birth makes_domain ended_by ended_by_act is_export exported_interface received_service received_parcel bound_by_act is_call asked_by queued_as is_take_of is_resume_of answered_by_act new_parts received_objects objects_in is_drop_of ended_object is_allocation makes_extent is_done new_threads is_choice reply_to object_part mapped extent_row
+    StandsFor s (record k { past = entry d t (act.Copy j j_at m at count) reply.Done ∷ k.past; extents = changed_at i (λ row. record row { bytes = option_map (written 0 (o.from + not_below_zero at) (not_below_zero count) (λ x. byte_at k.past source.extent (source.from + (not_below_zero j_at + x)))) row.bytes }) k.extents })
+unfolding is_birth makes_domain ended_by ended_by_act is_export exported_interface received_service received_parcel bound_by_act is_call asked_by queued_as is_take_of is_resume_of answered_by_act new_parts received_objects objects_in is_drop_of ended_object is_allocation makes_extent is_done new_threads is_choice reply_to object_part extent_row
 stands_after_copy s k d t j j_at m at count source o i h n q z y =
     record {
       admitted = (n, h.admitted);
@@ -458,13 +459,13 @@ stands_after_copy s k d t j j_at m at count source o i h n q z y =
     used : is_extent_in_use k.past o.extent ≡ true
     used = in_use k.past o.extent m.0 (record { part = o; is = is; extent = refl; valid = held.1; used = ByDomain d held.0 })
 
-    row_is : (let row : ExtentRow = record (extent_row k.past o.extent) { bytes = Some ((written 0 (o.from + not_below_zero at) (not_below_zero count) (λ x. byte_at k.past source.extent (source.from + (not_below_zero j_at + x)))) (extent_bytes k.past o.extent)) } in row) ≡ record (extent_row k.past o.extent) { bytes = mapped (written 0 (o.from + not_below_zero at) (not_below_zero count) (λ x. byte_at k.past source.extent (source.from + (not_below_zero j_at + x)))) (extent_row k.past o.extent).bytes }
-    row_is = ap (λ (on : Bool). let row : ExtentRow = record (extent_row k.past o.extent) { bytes = mapped (written 0 (o.from + not_below_zero at) (not_below_zero count) (λ x. byte_at k.past source.extent (source.from + (not_below_zero j_at + x)))) (kept_bytes on (extent_bytes k.past o.extent)) } in row) (sym used)
+    row_is : (let row : ExtentRow = record (extent_row k.past o.extent) { bytes = Some ((written 0 (o.from + not_below_zero at) (not_below_zero count) (λ x. byte_at k.past source.extent (source.from + (not_below_zero j_at + x)))) (extent_bytes k.past o.extent)) } in row) ≡ record (extent_row k.past o.extent) { bytes = option_map (written 0 (o.from + not_below_zero at) (not_below_zero count) (λ x. byte_at k.past source.extent (source.from + (not_below_zero j_at + x)))) (extent_row k.past o.extent).bytes }
+    row_is = ap (λ (on : Bool). let row : ExtentRow = record (extent_row k.past o.extent) { bytes = option_map (written 0 (o.from + not_below_zero at) (not_below_zero count) (λ x. byte_at k.past source.extent (source.from + (not_below_zero j_at + x)))) (kept_bytes on (extent_bytes k.past o.extent)) } in row) (sym used)
 
-    extents : changed_at i (λ row. record row { bytes = mapped (written 0 (o.from + not_below_zero at) (not_below_zero count) (λ x. byte_at k.past source.extent (source.from + (not_below_zero j_at + x)))) row.bytes }) k.extents ≡ extent_rows (entry d t (act.Copy j j_at m at count) reply.Done ∷ k.past)
+    extents : changed_at i (λ row. record row { bytes = option_map (written 0 (o.from + not_below_zero at) (not_below_zero count) (λ x. byte_at k.past source.extent (source.from + (not_below_zero j_at + x)))) row.bytes }) k.extents ≡ extent_rows (entry d t (act.Copy j j_at m at count) reply.Done ∷ k.past)
     extents =
-        ap (changed_at i (λ (row : ExtentRow). record row { bytes = mapped (written 0 (o.from + not_below_zero at) (not_below_zero count) (λ x. byte_at k.past source.extent (source.from + (not_below_zero j_at + x)))) row.bytes })) h.extents
-        ∙ sym (set_changed i (λ (row : ExtentRow). record row { bytes = mapped (written 0 (o.from + not_below_zero at) (not_below_zero count) (λ x. byte_at k.past source.extent (source.from + (not_below_zero j_at + x)))) row.bytes }) (extent_rows k.past) (extent_row k.past o.extent) (extent_row_there k.past o.extent i z made))
+        ap (changed_at i (λ (row : ExtentRow). record row { bytes = option_map (written 0 (o.from + not_below_zero at) (not_below_zero count) (λ x. byte_at k.past source.extent (source.from + (not_below_zero j_at + x)))) row.bytes })) h.extents
+        ∙ sym (set_changed i (λ (row : ExtentRow). record row { bytes = option_map (written 0 (o.from + not_below_zero at) (not_below_zero count) (λ x. byte_at k.past source.extent (source.from + (not_below_zero j_at + x)))) row.bytes }) (extent_rows k.past) (extent_row k.past o.extent) (extent_row_there k.past o.extent i z made))
         ∙ ap (set (extent_rows k.past) i) (sym row_is)
         ∙ sym (extents_written s (entry d t (act.Copy j j_at m at count) reply.Done) k.past o.extent i ((written 0 (o.from + not_below_zero at) (not_below_zero count) (λ x. byte_at k.past source.extent (source.from + (not_below_zero j_at + x)))) (extent_bytes k.past o.extent)) (n, h.admitted) refl refl (no_drop (entry d t (act.Copy j j_at m at count) reply.Done) (λ x. refl)) z made used (bytes_after_copy d t k.past j j_at m o at count source is from_is made) (λ y u v. others_after_copy d t k.past j j_at m o at count y source is from_is u v))
 
@@ -489,8 +490,8 @@ stands_after_release s k d t m h n =
 
 -- an exit
 pub stands_after_exit : (s : System) (k : Kept) (d t : ℕ) (code : ℤ) (r : Reply) (i : ℕ) (names : List (List ℕ × ℕ)) → StandsFor s k → IsNext s k.past (entry d t (act.Exit code) r) → d ≡ i + 1 →
-    ((x : List ℕ) → named_service names x ≡ and_then (named_service k.names x) (λ y. if is_number (owner_of k.past y) d then None else Some y)) →
-    StandsFor s (record k { past = entry d t (act.Exit code) r ∷ k.past; domains = changed_at i (λ row. record row { ended = Some (reason.Exit code) }) k.domains; services = each_row (λ nth row. record row { holders = portals_after (entry d t (act.Exit code) r) (length k.domains) nth row.holders }) k.services; names = names; calls = (map (ended_call (owned_by k.past d) d) k.calls); waiting = filter (λ c. not (owned_by k.past d (or_zero (service_of_call k.past c)))) k.waiting; objects = (each_row (object_row_after (entry d t (act.Exit code) r) (length k.domains) k.parts (map (ended_call (owned_by k.past d) d) k.calls)) k.objects); extents = each_row (λ x row. record row { bytes = if in_use_by k.parts (each_row (object_row_after (entry d t (act.Exit code) r) (length k.domains) k.parts (map (ended_call (owned_by k.past d) d) k.calls)) k.objects) x then row.bytes else None }) k.extents; taken = each_from (λ i used. used && not (lies_in_one (freed_runs s (entry d t (act.Exit code) r) k.past) i)) 0 k.taken })
+    ((x : List ℕ) → named_service names x ≡ option_and_then (λ y. if is_number (owner_of k.past y) d then None else Some y) (named_service k.names x)) →
+    StandsFor s (record k { past = entry d t (act.Exit code) r ∷ k.past; domains = changed_at i (λ row. record row { ended = Some (reason.Exit code) }) k.domains; services = each_row (λ nth row. record row { holders = portals_after (entry d t (act.Exit code) r) (length k.domains) nth row.holders }) k.services; names = names; calls = (map (ended_call (owned_by k.past d) d) k.calls); waiting = filter (λ c. not (owned_by k.past d (unwrap_or (service_of_call k.past c) 0))) k.waiting; objects = (each_row (object_row_after (entry d t (act.Exit code) r) (length k.domains) k.parts (map (ended_call (owned_by k.past d) d) k.calls)) k.objects); extents = each_row (λ x row. record row { bytes = if in_use_by k.parts (each_row (object_row_after (entry d t (act.Exit code) r) (length k.domains) k.parts (map (ended_call (owned_by k.past d) d) k.calls)) k.objects) x then row.bytes else None }) k.extents; taken = each_from (λ i used. used && not (lies_in_one (freed_runs s (entry d t (act.Exit code) r) k.past) i)) 0 k.taken })
 unfolding is_birth makes_domain ended_by ended_by_act is_export exported_interface received_service received_parcel bound_by_act is_call asked_by queued_as is_take_of is_resume_of answered_by_act new_parts received_objects objects_in is_drop_of ended_object is_allocation makes_extent is_done new_threads is_choice
 stands_after_exit s k d t code r i names h n q v =
     record {
@@ -498,9 +499,9 @@ stands_after_exit s k d t code r i names h n q v =
       domains = domains_ended s k (entry d t (act.Exit code) r) h n d i (reason.Exit code) refl refl q (live_made k.past d (ended_was_live s k.past (entry d t (act.Exit code) r) d (reason.Exit code) n refl)).high;
       threads = h.threads ∙ sym (threads_left s k.past (entry d t (act.Exit code) r) n refl refl refl refl);
       services = services_stepped s k (entry d t (act.Exit code) r) h n refl;
-      names = λ x. v x ∙ ap (λ (o : Option ℕ). and_then o (λ y. if is_number (owner_of k.past y) d then None else Some y)) (h.names x) ∙ sym (name_after_end s (entry d t (act.Exit code) r) k.past x d (reason.Exit code) h.admitted refl refl);
+      names = λ x. v x ∙ ap (λ (o : Option ℕ). option_and_then (λ y. if is_number (owner_of k.past y) d then None else Some y) o) (h.names x) ∙ sym (name_after_end s (entry d t (act.Exit code) r) k.past x d (reason.Exit code) h.admitted refl refl);
       calls = (ap (map (ended_call (owned_by k.past d) d)) h.calls ∙ sym (calls_after_end s k.past (entry d t (act.Exit code) r) d h.admitted (record { why = (reason.Exit code); ends = refl; call = refl; take = λ x. refl; resume = λ x. refl; answer = λ x. refl })));
-      waiting = ap (filter (λ c. not (owned_by k.past d (or_zero (service_of_call k.past c))))) h.waiting ∙ sym (waiting_after_end k.past (entry d t (act.Exit code) r) d (record { why = (reason.Exit code); ends = refl; call = refl; take = λ x. refl; resume = λ x. refl; answer = λ x. refl }));
+      waiting = ap (filter (λ c. not (owned_by k.past d (unwrap_or (service_of_call k.past c) 0)))) h.waiting ∙ sym (waiting_after_end k.past (entry d t (act.Exit code) r) d (record { why = (reason.Exit code); ends = refl; call = refl; take = λ x. refl; resume = λ x. refl; answer = λ x. refl }));
       parts = keeps_parts s k (entry d t (act.Exit code) r) h n refl;
       objects = (objects_stepped s k (entry d t (act.Exit code) r) h n (map (ended_call (owned_by k.past d) d) k.calls) refl (ap (map (ended_call (owned_by k.past d) d)) h.calls ∙ sym (calls_after_end s k.past (entry d t (act.Exit code) r) d h.admitted (record { why = (reason.Exit code); ends = refl; call = refl; take = λ x. refl; resume = λ x. refl; answer = λ x. refl }))));
       extents = extents_stepped s k (entry d t (act.Exit code) r) h n k.parts (each_row (object_row_after (entry d t (act.Exit code) r) (length k.domains) k.parts (map (ended_call (owned_by k.past d) d) k.calls)) k.objects) refl (and_false (is_done r)) (keeps_parts s k (entry d t (act.Exit code) r) h n refl) (objects_stepped s k (entry d t (act.Exit code) r) h n (map (ended_call (owned_by k.past d) d) k.calls) refl (ap (map (ended_call (owned_by k.past d) d)) h.calls ∙ sym (calls_after_end s k.past (entry d t (act.Exit code) r) d h.admitted (record { why = (reason.Exit code); ends = refl; call = refl; take = λ x. refl; resume = λ x. refl; answer = λ x. refl }))));
@@ -509,8 +510,8 @@ stands_after_exit s k d t code r i names h n q v =
 
 -- an end
 pub stands_after_end : (s : System) (k : Kept) (d t : ℕ) (why : Reason) (r : Reply) (i : ℕ) (names : List (List ℕ × ℕ)) → StandsFor s k → IsNext s k.past (entry d t (act.End why) r) → d ≡ i + 1 →
-    ((x : List ℕ) → named_service names x ≡ and_then (named_service k.names x) (λ y. if is_number (owner_of k.past y) d then None else Some y)) →
-    StandsFor s (record k { past = entry d t (act.End why) r ∷ k.past; domains = changed_at i (λ row. record row { ended = Some why }) k.domains; services = each_row (λ nth row. record row { holders = portals_after (entry d t (act.End why) r) (length k.domains) nth row.holders }) k.services; names = names; calls = (map (ended_call (owned_by k.past d) d) k.calls); waiting = filter (λ c. not (owned_by k.past d (or_zero (service_of_call k.past c)))) k.waiting; objects = (each_row (object_row_after (entry d t (act.End why) r) (length k.domains) k.parts (map (ended_call (owned_by k.past d) d) k.calls)) k.objects); extents = each_row (λ x row. record row { bytes = if in_use_by k.parts (each_row (object_row_after (entry d t (act.End why) r) (length k.domains) k.parts (map (ended_call (owned_by k.past d) d) k.calls)) k.objects) x then row.bytes else None }) k.extents; taken = each_from (λ i used. used && not (lies_in_one (freed_runs s (entry d t (act.End why) r) k.past) i)) 0 k.taken })
+    ((x : List ℕ) → named_service names x ≡ option_and_then (λ y. if is_number (owner_of k.past y) d then None else Some y) (named_service k.names x)) →
+    StandsFor s (record k { past = entry d t (act.End why) r ∷ k.past; domains = changed_at i (λ row. record row { ended = Some why }) k.domains; services = each_row (λ nth row. record row { holders = portals_after (entry d t (act.End why) r) (length k.domains) nth row.holders }) k.services; names = names; calls = (map (ended_call (owned_by k.past d) d) k.calls); waiting = filter (λ c. not (owned_by k.past d (unwrap_or (service_of_call k.past c) 0))) k.waiting; objects = (each_row (object_row_after (entry d t (act.End why) r) (length k.domains) k.parts (map (ended_call (owned_by k.past d) d) k.calls)) k.objects); extents = each_row (λ x row. record row { bytes = if in_use_by k.parts (each_row (object_row_after (entry d t (act.End why) r) (length k.domains) k.parts (map (ended_call (owned_by k.past d) d) k.calls)) k.objects) x then row.bytes else None }) k.extents; taken = each_from (λ i used. used && not (lies_in_one (freed_runs s (entry d t (act.End why) r) k.past) i)) 0 k.taken })
 unfolding is_birth makes_domain ended_by ended_by_act is_export exported_interface received_service received_parcel bound_by_act is_call asked_by queued_as is_take_of is_resume_of answered_by_act new_parts received_objects objects_in is_drop_of ended_object is_allocation makes_extent is_done new_threads is_choice
 stands_after_end s k d t why r i names h n q v =
     record {
@@ -518,9 +519,9 @@ stands_after_end s k d t why r i names h n q v =
       domains = domains_ended s k (entry d t (act.End why) r) h n d i why refl refl q (live_made k.past d (ended_was_live s k.past (entry d t (act.End why) r) d why n refl)).high;
       threads = h.threads ∙ sym (threads_left s k.past (entry d t (act.End why) r) n refl refl refl refl);
       services = services_stepped s k (entry d t (act.End why) r) h n refl;
-      names = λ x. v x ∙ ap (λ (o : Option ℕ). and_then o (λ y. if is_number (owner_of k.past y) d then None else Some y)) (h.names x) ∙ sym (name_after_end s (entry d t (act.End why) r) k.past x d why h.admitted refl refl);
+      names = λ x. v x ∙ ap (λ (o : Option ℕ). option_and_then (λ y. if is_number (owner_of k.past y) d then None else Some y) o) (h.names x) ∙ sym (name_after_end s (entry d t (act.End why) r) k.past x d why h.admitted refl refl);
       calls = (ap (map (ended_call (owned_by k.past d) d)) h.calls ∙ sym (calls_after_end s k.past (entry d t (act.End why) r) d h.admitted (record { why = why; ends = refl; call = refl; take = λ x. refl; resume = λ x. refl; answer = λ x. refl })));
-      waiting = ap (filter (λ c. not (owned_by k.past d (or_zero (service_of_call k.past c))))) h.waiting ∙ sym (waiting_after_end k.past (entry d t (act.End why) r) d (record { why = why; ends = refl; call = refl; take = λ x. refl; resume = λ x. refl; answer = λ x. refl }));
+      waiting = ap (filter (λ c. not (owned_by k.past d (unwrap_or (service_of_call k.past c) 0)))) h.waiting ∙ sym (waiting_after_end k.past (entry d t (act.End why) r) d (record { why = why; ends = refl; call = refl; take = λ x. refl; resume = λ x. refl; answer = λ x. refl }));
       parts = keeps_parts s k (entry d t (act.End why) r) h n refl;
       objects = (objects_stepped s k (entry d t (act.End why) r) h n (map (ended_call (owned_by k.past d) d) k.calls) refl (ap (map (ended_call (owned_by k.past d) d)) h.calls ∙ sym (calls_after_end s k.past (entry d t (act.End why) r) d h.admitted (record { why = why; ends = refl; call = refl; take = λ x. refl; resume = λ x. refl; answer = λ x. refl }))));
       extents = extents_stepped s k (entry d t (act.End why) r) h n k.parts (each_row (object_row_after (entry d t (act.End why) r) (length k.domains) k.parts (map (ended_call (owned_by k.past d) d) k.calls)) k.objects) refl (and_false (is_done r)) (keeps_parts s k (entry d t (act.End why) r) h n refl) (objects_stepped s k (entry d t (act.End why) r) h n (map (ended_call (owned_by k.past d) d) k.calls) refl (ap (map (ended_call (owned_by k.past d) d)) h.calls ∙ sym (calls_after_end s k.past (entry d t (act.End why) r) d h.admitted (record { why = why; ends = refl; call = refl; take = λ x. refl; resume = λ x. refl; answer = λ x. refl }))));
@@ -529,8 +530,8 @@ stands_after_end s k d t why r i names h n q v =
 
 -- a done kill
 pub stands_after_kill : (s : System) (k : Kept) (d t : ℕ) (j : ℤ) (i : ℕ) (names : List (List ℕ × ℕ)) → StandsFor s k → IsNext s k.past (entry d t (act.Kill j) reply.Done) → (not_below_zero j) ≡ i + 1 →
-    ((x : List ℕ) → named_service names x ≡ and_then (named_service k.names x) (λ y. if is_number (owner_of k.past y) (not_below_zero j) then None else Some y)) →
-    StandsFor s (record k { past = entry d t (act.Kill j) reply.Done ∷ k.past; domains = changed_at i (λ row. record row { ended = Some reason.Killed }) k.domains; services = each_row (λ nth row. record row { holders = portals_after (entry d t (act.Kill j) reply.Done) (length k.domains) nth row.holders }) k.services; names = names; calls = (map (ended_call (owned_by k.past (not_below_zero j)) (not_below_zero j)) k.calls); waiting = filter (λ c. not (owned_by k.past (not_below_zero j) (or_zero (service_of_call k.past c)))) k.waiting; objects = (each_row (object_row_after (entry d t (act.Kill j) reply.Done) (length k.domains) k.parts (map (ended_call (owned_by k.past (not_below_zero j)) (not_below_zero j)) k.calls)) k.objects); extents = each_row (λ x row. record row { bytes = if in_use_by k.parts (each_row (object_row_after (entry d t (act.Kill j) reply.Done) (length k.domains) k.parts (map (ended_call (owned_by k.past (not_below_zero j)) (not_below_zero j)) k.calls)) k.objects) x then row.bytes else None }) k.extents; taken = each_from (λ i used. used && not (lies_in_one (freed_runs s (entry d t (act.Kill j) reply.Done) k.past) i)) 0 k.taken })
+    ((x : List ℕ) → named_service names x ≡ option_and_then (λ y. if is_number (owner_of k.past y) (not_below_zero j) then None else Some y) (named_service k.names x)) →
+    StandsFor s (record k { past = entry d t (act.Kill j) reply.Done ∷ k.past; domains = changed_at i (λ row. record row { ended = Some reason.Killed }) k.domains; services = each_row (λ nth row. record row { holders = portals_after (entry d t (act.Kill j) reply.Done) (length k.domains) nth row.holders }) k.services; names = names; calls = (map (ended_call (owned_by k.past (not_below_zero j)) (not_below_zero j)) k.calls); waiting = filter (λ c. not (owned_by k.past (not_below_zero j) (unwrap_or (service_of_call k.past c) 0))) k.waiting; objects = (each_row (object_row_after (entry d t (act.Kill j) reply.Done) (length k.domains) k.parts (map (ended_call (owned_by k.past (not_below_zero j)) (not_below_zero j)) k.calls)) k.objects); extents = each_row (λ x row. record row { bytes = if in_use_by k.parts (each_row (object_row_after (entry d t (act.Kill j) reply.Done) (length k.domains) k.parts (map (ended_call (owned_by k.past (not_below_zero j)) (not_below_zero j)) k.calls)) k.objects) x then row.bytes else None }) k.extents; taken = each_from (λ i used. used && not (lies_in_one (freed_runs s (entry d t (act.Kill j) reply.Done) k.past) i)) 0 k.taken })
 unfolding is_birth makes_domain ended_by ended_by_act is_export exported_interface received_service received_parcel bound_by_act is_call asked_by queued_as is_take_of is_resume_of answered_by_act new_parts received_objects objects_in is_drop_of ended_object is_allocation makes_extent is_done new_threads is_choice
 stands_after_kill s k d t j i names h n q v =
     record {
@@ -538,9 +539,9 @@ stands_after_kill s k d t j i names h n q v =
       domains = domains_ended s k (entry d t (act.Kill j) reply.Done) h n (not_below_zero j) i reason.Killed refl refl q (live_made k.past (not_below_zero j) (ended_was_live s k.past (entry d t (act.Kill j) reply.Done) (not_below_zero j) reason.Killed n refl)).high;
       threads = h.threads ∙ sym (threads_left s k.past (entry d t (act.Kill j) reply.Done) n refl refl refl refl);
       services = services_stepped s k (entry d t (act.Kill j) reply.Done) h n refl;
-      names = λ x. v x ∙ ap (λ (o : Option ℕ). and_then o (λ y. if is_number (owner_of k.past y) (not_below_zero j) then None else Some y)) (h.names x) ∙ sym (name_after_end s (entry d t (act.Kill j) reply.Done) k.past x (not_below_zero j) reason.Killed h.admitted refl refl);
+      names = λ x. v x ∙ ap (λ (o : Option ℕ). option_and_then (λ y. if is_number (owner_of k.past y) (not_below_zero j) then None else Some y) o) (h.names x) ∙ sym (name_after_end s (entry d t (act.Kill j) reply.Done) k.past x (not_below_zero j) reason.Killed h.admitted refl refl);
       calls = (ap (map (ended_call (owned_by k.past (not_below_zero j)) (not_below_zero j))) h.calls ∙ sym (calls_after_end s k.past (entry d t (act.Kill j) reply.Done) (not_below_zero j) h.admitted (record { why = reason.Killed; ends = refl; call = refl; take = λ x. refl; resume = λ x. refl; answer = λ x. refl })));
-      waiting = ap (filter (λ c. not (owned_by k.past (not_below_zero j) (or_zero (service_of_call k.past c))))) h.waiting ∙ sym (waiting_after_end k.past (entry d t (act.Kill j) reply.Done) (not_below_zero j) (record { why = reason.Killed; ends = refl; call = refl; take = λ x. refl; resume = λ x. refl; answer = λ x. refl }));
+      waiting = ap (filter (λ c. not (owned_by k.past (not_below_zero j) (unwrap_or (service_of_call k.past c) 0)))) h.waiting ∙ sym (waiting_after_end k.past (entry d t (act.Kill j) reply.Done) (not_below_zero j) (record { why = reason.Killed; ends = refl; call = refl; take = λ x. refl; resume = λ x. refl; answer = λ x. refl }));
       parts = keeps_parts s k (entry d t (act.Kill j) reply.Done) h n refl;
       objects = (objects_stepped s k (entry d t (act.Kill j) reply.Done) h n (map (ended_call (owned_by k.past (not_below_zero j)) (not_below_zero j)) k.calls) refl (ap (map (ended_call (owned_by k.past (not_below_zero j)) (not_below_zero j))) h.calls ∙ sym (calls_after_end s k.past (entry d t (act.Kill j) reply.Done) (not_below_zero j) h.admitted (record { why = reason.Killed; ends = refl; call = refl; take = λ x. refl; resume = λ x. refl; answer = λ x. refl }))));
       extents = extents_stepped s k (entry d t (act.Kill j) reply.Done) h n k.parts (each_row (object_row_after (entry d t (act.Kill j) reply.Done) (length k.domains) k.parts (map (ended_call (owned_by k.past (not_below_zero j)) (not_below_zero j)) k.calls)) k.objects) refl refl (keeps_parts s k (entry d t (act.Kill j) reply.Done) h n refl) (objects_stepped s k (entry d t (act.Kill j) reply.Done) h n (map (ended_call (owned_by k.past (not_below_zero j)) (not_below_zero j)) k.calls) refl (ap (map (ended_call (owned_by k.past (not_below_zero j)) (not_below_zero j))) h.calls ∙ sym (calls_after_end s k.past (entry d t (act.Kill j) reply.Done) (not_below_zero j) h.admitted (record { why = reason.Killed; ends = refl; call = refl; take = λ x. refl; resume = λ x. refl; answer = λ x. refl }))));

@@ -10,13 +10,14 @@ use Rattle.jx_base.specs.declared.ids.CallId.{CallId}
 use Rattle.jx_base.specs.declared.ids.ServiceId.{ServiceId}
 use Rattle.jx_base.specs.declared.states.ThreadState.{ThreadState}
 use Rattle.jx_base.specs.declared.states.ThreadState.TheVariants as thread
-use Rattle.jx_base.specs.Basics.{mapped, passes}
+use Rattle.jx_base.specs.Basics.{passes}
 use Rattle.jx_base.specs.Histories.{Past, is_own}
 use Rattle.jx_model.specs.Threads.{service_threads, new_threads_of, new_threads, threads_of, is_of_thread, served_call, served_after, state_after, state_by_last, serving_state, last_of_thread, thread_state, is_running_state}
 use Rattle.jx_model.specs.Tables.{ThreadRow, thread_row, thread_rows, state_or_over}
 use Rattle.jx_base.proofs.BasicLaws.{ap2, ap3}
 use Rattle.jx_model.proofs.OneThread.{serves_same, last_same, state_with}
 use Rattle.history_rows.proofs.Rows.{map_range, set_range}
+use Rattle.std.specs.Option.{option_map}
 
 -- ---- one thread
 
@@ -54,17 +55,17 @@ service_there past d t l = there (service_threads past d) t l
 -- an own entry of a thread that is there makes its row of the row before
 pub thread_row_own : (e : Entry) (past : Past) (d t : ℕ) → service_of_thread (e ∷ past) d t ≡ service_of_thread past d t → is_of_thread d t e ≡ true → t ≤ length (service_threads past d) →
     thread_row (e ∷ past) d t ≡ thread_row_after (service_of_thread past d t) (thread_row past d t) e.act e.reply
-unfolding thread_row thread_state state_or_over state_by_last mapped
+unfolding thread_row thread_state state_or_over state_by_last
 thread_row_own e past d zero n h l =
     ap2 (λ (o : Option Entry) (c : Option CallId). let row : ThreadRow = record { state = state_by_last thread.Running o; serves = c } in row) (last_own e past d 0 h) (serves_own e past d 0 h)
 thread_row_own e past d (suc t) n h l =
     let k = service_there past d t l in
-    ap3 (λ (c : Option CallId) (o : Option Entry) (k : Option ServiceId). let row : ThreadRow = record { state = state_or_over (mapped (state_with c o) k); serves = c } in row)
+    ap3 (λ (c : Option CallId) (o : Option Entry) (k : Option ServiceId). let row : ThreadRow = record { state = state_or_over (option_map (state_with c o) k); serves = c } in row)
     (serves_own e past d (suc t) h) (last_own e past d (suc t) h) n
     ∙ by k.0 (slice_get (service_threads past d) t) k.1
   where
     by : (k : ServiceId) (o : Option ServiceId) → o ≡ Some k →
-        (let row : ThreadRow = record { state = state_or_over (mapped (state_with (served_after (served_call past d (suc t)) e.act) (Some e)) o); serves = served_after (served_call past d (suc t)) e.act } in row)
+        (let row : ThreadRow = record { state = state_or_over (option_map (state_with (served_after (served_call past d (suc t)) e.act) (Some e)) o); serves = served_after (served_call past d (suc t)) e.act } in row)
         ≡ record { state = state_after (runs_as o (served_after (served_call past d (suc t)) e.act)) e.act e.reply; serves = served_after (served_call past d (suc t)) e.act }
     by k None q = cc
     by k (Some s) q = refl
@@ -75,7 +76,7 @@ unfolding thread_row thread_state state_or_over
 thread_row_other e past d zero n h =
     ap2 (λ (o : Option Entry) (c : Option CallId). let row : ThreadRow = record { state = state_by_last thread.Running o; serves = c } in row) (last_same e past d 0 h) (serves_same e past d 0 h)
 thread_row_other e past d (suc t) n h =
-    ap3 (λ (c : Option CallId) (o : Option Entry) (k : Option ServiceId). let row : ThreadRow = record { state = state_or_over (mapped (state_with c o) k); serves = c } in row)
+    ap3 (λ (c : Option CallId) (o : Option Entry) (k : Option ServiceId). let row : ThreadRow = record { state = state_or_over (option_map (state_with c o) k); serves = c } in row)
     (serves_same e past d (suc t) h) (last_same e past d (suc t) h) n
 
 -- a thread keeps its service where its domain has the same threads
@@ -175,12 +176,12 @@ runs_by_last x (Some e) h = runs_after x e.act e.reply h
 -- the row of a running thread
 pub running_row : (past : Past) (d t : ℕ) → passes is_running_state (thread_state past d t) ≡ true →
     thread_row past d t ≡ record { state = runs_as (service_of_thread past d t) (served_call past d t); serves = served_call past d t }
-unfolding thread_row thread_state state_or_over passes mapped
+unfolding thread_row thread_state state_or_over passes
 running_row past d zero h = ap (λ (x : ThreadState). let row : ThreadRow = record { state = x; serves = served_call past d 0 } in row) (runs_by_last thread.Running (last_of_thread past d 0) h)
 running_row past d (suc t) h = by (slice_get (service_threads past d) t) h
   where
-    by : (o : Option ServiceId) → passes is_running_state (mapped (state_with (served_call past d (suc t)) (last_of_thread past d (suc t))) o) ≡ true →
-        (let row : ThreadRow = record { state = state_or_over (mapped (state_with (served_call past d (suc t)) (last_of_thread past d (suc t))) o); serves = served_call past d (suc t) } in row)
+    by : (o : Option ServiceId) → passes is_running_state (option_map (state_with (served_call past d (suc t)) (last_of_thread past d (suc t))) o) ≡ true →
+        (let row : ThreadRow = record { state = state_or_over (option_map (state_with (served_call past d (suc t)) (last_of_thread past d (suc t))) o); serves = served_call past d (suc t) } in row)
         ≡ record { state = runs_as o (served_call past d (suc t)); serves = served_call past d (suc t) }
     by None h = cc
     by (Some k) h =

@@ -7,7 +7,7 @@ use Rattle.jx_base.specs.declared.ids.CallId.{CallId}
 use Rattle.jx_base.specs.declared.ids.ServiceId.{ServiceId}
 use Rattle.jx_base.specs.declared.program.System.{System}
 use Rattle.jx_base.specs.declared.states.ThreadState.TheVariants as thread
-use Rattle.jx_base.specs.Basics.{up_to, mapped, passes}
+use Rattle.jx_base.specs.Basics.{up_to, passes}
 use Rattle.jx_base.specs.Histories.{Past, is_own}
 use Rattle.jx_model.specs.Domains.{is_birth, domains_made}
 use Rattle.jx_model.specs.Threads.{service_threads, new_threads_of, threads_of, is_of_thread, state_by_last, serving_state, thread_state, is_running_state}
@@ -20,6 +20,7 @@ use Rattle.history_rows.proofs.Rows.{map_range, set_range, rows_same, rows_more,
 use Rattle.history_rows.proofs.ThreadRows.{service_of_thread, leaves_thread, threads_of_own, threads_of_other, idle_row, row_left, thread_row_own, thread_row_other, not_this}
 use Rattle.history_rows.proofs.Actors.{unmade_acts}
 use Rattle.history_rows.proofs.Absent.{IsAbsent, absent, unmade_absent, unmade_threads, stranger}
+use Rattle.std.specs.Option.{option_map}
 
 -- all threads, by domain
 abbrev pub thread_table : Past → List (List ThreadRow)
@@ -118,9 +119,9 @@ kept_service e past d (suc t) l = get_left (service_threads past d) (new_threads
 -- a thread that was just added is idle
 added_row : (s : System) (e : Entry) (past : Past) (d i : ℕ) (k : ServiceId) → IsNext s past e → IsAdmittedPast s past → slice_get (new_threads_of d e) i ≡ Some k →
     thread_row (e ∷ past) d (suc (length (service_threads past d) + i)) ≡ idle_row k
-unfolding thread_row thread_state state_or_over service_threads state_by_last serving_state mapped
+unfolding thread_row thread_state state_or_over service_threads state_by_last serving_state
 added_row s e past d i k n a h =
-    ap3 (λ (c : Option CallId) (o : Option Entry) (k : Option ServiceId). let row : ThreadRow = record { state = state_or_over (mapped (state_with c o) k); serves = c } in row)
+    ap3 (λ (c : Option CallId) (o : Option Entry) (k : Option ServiceId). let row : ThreadRow = record { state = state_or_over (option_map (state_with c o) k); serves = c } in row)
     (serves_same e past d t o ∙ b.serves) (last_same e past d t o ∙ b.last) (get_right (service_threads past d) (new_threads_of d e) i (length (service_threads past d) + i) refl ∙ h)
   where
     t : ℕ

@@ -16,7 +16,7 @@ use Rattle.jx_base.specs.declared.value.Parcel.{Parcel}
 use Rattle.jx_base.specs.declared.program.System.{System}
 use Rattle.jx_base.specs.declared.states.CallState.{CallState}
 use Rattle.jx_base.specs.declared.states.CallState.TheVariants as call
-use Rattle.jx_base.specs.Basics.{contains_number, passes, mapped}
+use Rattle.jx_base.specs.Basics.{contains_number, passes}
 use Rattle.program_model.specs.ParcelParts.{parcel_objects}
 use Rattle.jx_base.specs.Histories.{Past, is_own, is_done}
 use Rattle.jx_model.specs.Domains.{is_live}
@@ -38,6 +38,7 @@ use Rattle.history_rows.proofs.Holders.{keeps_step, keeps_made, objects_grow}
 use Rattle.history_rows.proofs.Given.{Source, Fresh, FromCall, FromAnswer, source}
 use Rattle.history_rows.proofs.CallRows.{carried_after, carried_made, call_row_new}
 use Rattle.history_rows.proofs.CallActs.{caller_lived}
+use Rattle.std.specs.Option.{option_map}
 
 -- a domain holds the object, or a call carries it
 pub data Use (past : Past) (m : ℕ) : Type 0 where
@@ -234,9 +235,9 @@ carried_new s e past m n h i = by e.act refl (both (is_some (asked_by e.act)) (i
 
 -- a call that isn't made carries nothing
 pub carried_none : (past : Past) (c : ℕ) → (c ≡ 0) ⊎ (calls_made past < c) → carried past c ≡ []
-unfolding carried carried_by is_queued is_unanswered has_live_caller caller_of passes mapped call_entry
+unfolding carried carried_by is_queued is_unanswered has_live_caller caller_of passes call_entry
 carried_none past c h =
-    ap (λ (o : Option Entry). carried_by (is_some o && is_none (answer_of past c) && not (is_taken past c)) (passes (is_live past) (mapped (λ e. e.domain.0) o) && not (is_resumed past c)) (asked_of past c) (answer_of past c)) (none h)
+    ap (λ (o : Option Entry). carried_by (is_some o && is_none (answer_of past c) && not (is_taken past c)) (passes (is_live past) (option_map (λ e. e.domain.0) o) && not (is_resumed past c)) (asked_of past c) (answer_of past c)) (none h)
   where
     none : (c ≡ 0) ⊎ (calls_made past < c) → call_entry past c ≡ None
     none (inl q) = no_first (call_entry past c) refl

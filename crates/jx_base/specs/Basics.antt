@@ -21,30 +21,10 @@ unfoldable pub is_number : Option ℕ → ℕ → Bool
 is_number None n = false
 is_number (Some m) n = m == n
 
--- the number that is there, or 0
-unfoldable pub or_zero : Option ℕ → ℕ
-or_zero None = 0
-or_zero (Some n) = n
-
--- what f gives of the value that is there
-unfoldable pub and_then : {A B : Type 0} → Option A → (A → Option B) → Option B
-and_then None f = None
-and_then (Some x) f = f x
-
--- f of the value that is there
-unfoldable pub mapped : {A B : Type 0} → (A → B) → Option A → Option B
-mapped f None = None
-mapped f (Some x) = Some (f x)
-
 -- whether there is a value and it passes the test
 unfoldable pub passes : {A : Type 0} → (A → Bool) → Option A → Bool
 passes p None = false
 passes p (Some x) = p x
-
--- the first of two options that has a value
-unfoldable pub or_else : {A : Type 0} → Option A → Option A → Option A
-or_else None o = o
-or_else (Some x) o = Some x
 
 -- the first value that f gives of the items
 unfoldable pub first_some : {A B : Type 0} → (A → Option B) → List A → Option B
@@ -75,5 +55,5 @@ low_byte v k = cast_unsigned w32 v / 256 ^ k % 256
 
 -- what a computed row opens
 unfoldable pub opened_basics : Unit {0}
-unfolding up_to numbered contains_number is_number or_zero and_then mapped passes or_else first_some not_below_zero firsts_after firsts parts_of low_byte
+unfolding up_to numbered contains_number is_number passes first_some not_below_zero firsts_after firsts parts_of low_byte
 opened_basics = tt

@@ -5,7 +5,7 @@ use Rattle.jx_base.specs.declared.act.Act.TheVariants as act
 use Rattle.jx_base.specs.declared.act.Entry.{Entry}
 use Rattle.jx_base.specs.declared.ids.CallId.{CallId}
 use Rattle.jx_base.specs.declared.program.System.{System}
-use Rattle.jx_base.specs.Basics.{mapped, passes}
+use Rattle.jx_base.specs.Basics.{passes}
 use Rattle.jx_base.specs.Histories.{Past, nth_entry}
 use Rattle.jx_model.specs.Domains.{is_made, is_live}
 use Rattle.jx_model.specs.Calls.{is_call, asked_by, queued_as, calls_made, call_entry, caller_of, has_live_caller, is_take_of, is_answer_to, is_resume_of, first_since, answer_of, is_resumed, is_resumable}
@@ -19,6 +19,7 @@ use Rattle.jx_model.proofs.Growing.{moment}
 use Rattle.jx_model.proofs.Serving.{in_domain, of_none, Answers}
 use Rattle.jx_laws.proofs.Basics.{turned, nth_moment}
 use Rattle.jx_laws.proofs.Living.{actor_live, live_made, live_before, made_later, made_stays}
+use Rattle.std.specs.Option.{option_map}
 
 -- ---- the acts on calls
 
@@ -88,10 +89,10 @@ call_live s past e h n = actor_live s past e (calls_act e.act (both (is_some (as
 
 -- who made a call was made
 pub caller_made : (s : System) (past : Past) (c d : ℕ) → IsAdmittedPast s past → caller_of past c ≡ Some d → is_made past d ≡ true
-unfolding caller_of call_entry mapped
+unfolding caller_of call_entry
 caller_made s past c d a h = by (nth_entry is_call past c) refl h
   where
-    by : (o : Option Entry) → nth_entry is_call past c ≡ o → mapped (λ e. e.domain.0) o ≡ Some d → is_made past d ≡ true
+    by : (o : Option Entry) → nth_entry is_call past c ≡ o → option_map (λ e. e.domain.0) o ≡ Some d → is_made past d ≡ true
     by None q h = cc
     by (Some x) q h =
         let k = nth_moment is_call past c x q in
@@ -104,7 +105,7 @@ caller_made s past c d a h = by (nth_entry is_call past c) refl h
 -- a call keeps its caller
 pub caller_kept : (e : Entry) (past : Past) (c : ℕ) → c ≤ calls_made past → caller_of (e ∷ past) c ≡ caller_of past c
 unfolding caller_of
-caller_kept e past c u = ap (mapped (λ e. e.domain.0)) (entry_made e past c u)
+caller_kept e past c u = ap (option_map (λ e. e.domain.0)) (entry_made e past c u)
 
 -- a call whose caller is live now had a live caller before
 pub caller_before : (s : System) (e : Entry) (past : Past) (c : ℕ) → IsAdmittedPast s past → c ≤ calls_made past → has_live_caller (e ∷ past) c ≡ true → has_live_caller past c ≡ true

@@ -10,7 +10,6 @@ use Rattle.jx_base.specs.declared.ids.CallId.{CallId}
 use Rattle.jx_base.specs.declared.value.Parcel.{Parcel}
 use Rattle.jx_base.specs.declared.program.System.{System}
 use Rattle.std.specs.Prelude.{length}
-use Rattle.jx_base.specs.Basics.{and_then, mapped}
 use Rattle.jx_base.specs.Histories.{Past}
 use Rattle.jx_model.specs.Calls.{Asked, Answer, asked_of, service_of_call, is_take_of, is_resume_of, answer_of, first_since, calls_made, call_entry, answered_by, answered_by_act, answer_by_reply, refused_answer, thrown, ends_server, has_live_caller}
 use Rattle.jx_model.specs.Replies.{reply_to, job_of, answer_reply, or_done, sent_back, ◌refuses◌else◌}
@@ -21,17 +20,18 @@ use Rattle.jx_model.proofs.Growing.{moment, before_admitted}
 use Rattle.jx_model.proofs.Serving.{take_at}
 use Rattle.jx_laws.proofs.Basics.{fails, clash, value_of}
 use Rattle.jx_laws.proofs.CallFacts.{take_is, resume_is, since_there, entry_there, caller_before, resume_at}
+use Rattle.std.specs.Option.{option_and_then, option_map}
 
 -- ---- takes
 
 -- a job of what was asked is there
-job_asked : (o : Option Asked) (n : ℕ) → mapped (λ a. a.service.0) o ≡ Some n → mapped (λ a. job_of (Some a)) o ≡ Some (job_of o)
-unfolding mapped job_of
+job_asked : (o : Option Asked) (n : ℕ) → option_map (λ a. a.service.0) o ≡ Some n → option_map (λ a. job_of (Some a)) o ≡ Some (job_of o)
+unfolding job_of
 job_asked None n h = cc
 job_asked (Some a) n h = refl
 
 -- what a taken call asked is there
-asked_there : (past : Past) (c n : ℕ) → service_of_call past c ≡ Some n → mapped (λ a. job_of (Some a)) (asked_of past c) ≡ Some (job_of (asked_of past c))
+asked_there : (past : Past) (c n : ℕ) → service_of_call past c ≡ Some n → option_map (λ a. job_of (Some a)) (asked_of past c) ≡ Some (job_of (asked_of past c))
 unfolding service_of_call
 asked_there past c n h = job_asked (asked_of past c) n h
 
@@ -41,12 +41,12 @@ unfolding reply_to
 taken_reply s past d k = refl
 
 -- a take gives what its call asked
-pub take_copies : (s : System) (past : Past) (e : Entry) (c : ℕ) → IsNext s past e → is_take_of c e.act ≡ true → mapped (λ a. job_of (Some a)) (asked_of past c) ≡ Some e.reply
+pub take_copies : (s : System) (past : Past) (e : Entry) (c : ℕ) → IsNext s past e → is_take_of c e.act ≡ true → option_map (λ a. job_of (Some a)) (asked_of past c) ≡ Some e.reply
 take_copies s past e c n h =
     let k = take_is c e.act h in
     let t = take_at s past e k.0 n k.1 in
     let r : e.reply ≡ job_of (asked_of past k.0.0) = n.reply ∙ ap (reply_to s past e.domain.0) k.1 ∙ taken_reply s past e.domain.0 k.0 in
-    ap (λ (x : ℕ). mapped (λ a. job_of (Some a)) (asked_of past x)) (sym k.2) ∙ asked_there past k.0.0 t.service t.of ∙ ap (λ (x : Reply). Some x) (sym r)
+    ap (λ (x : ℕ). option_map (λ a. job_of (Some a)) (asked_of past x)) (sym k.2) ∙ asked_there past k.0.0 t.service t.of ∙ ap (λ (x : Reply). Some x) (sym r)
 
 -- ---- resumes
 
@@ -133,7 +133,7 @@ discarded s (e ∷ past) c a h =
     by None false q r h again = cc
 
 -- what a resume is answered with
-resumed_reply : (s : System) (past : Past) (d : ℕ) (k : CallId) → reply_to s past d (act.Resume k) ≡ or_done (and_then (answer_of past k.0) answer_reply)
+resumed_reply : (s : System) (past : Past) (d : ℕ) (k : CallId) → reply_to s past d (act.Resume k) ≡ or_done (option_and_then answer_reply (answer_of past k.0))
 unfolding reply_to
 resumed_reply s past d k = refl
 
@@ -147,20 +147,19 @@ given_answer Answer.Ended f = refl
 given_answer Answer.Discarded f = absurd (f refl)
 
 -- an answer that is there and isn't discarded is given
-given_of : (o : Option Answer) (x : Answer) → o ≡ Some x → (x ≡ Answer.Discarded → ⊥) → and_then o answer_reply ≡ Some (or_done (and_then o answer_reply))
-unfolding and_then
+given_of : (o : Option Answer) (x : Answer) → o ≡ Some x → (x ≡ Answer.Discarded → ⊥) → option_and_then answer_reply o ≡ Some (or_done (option_and_then answer_reply o))
 given_of None x q f = cc
 given_of (Some y) x q f = given_answer y (λ z. f (let w : y ≡ x = cc in sym w ∙ z))
 
 -- a resume gives the answer
-pub resume_copies : (s : System) (past : Past) (e : Entry) (c : ℕ) → IsAdmittedPast s past → IsNext s past e → is_resume_of c e.act ≡ true → and_then (answer_of past c) answer_reply ≡ Some e.reply
+pub resume_copies : (s : System) (past : Past) (e : Entry) (c : ℕ) → IsAdmittedPast s past → IsNext s past e → is_resume_of c e.act ≡ true → option_and_then answer_reply (answer_of past c) ≡ Some e.reply
 resume_copies s past e c a n h =
     let k = resume_is c e.act h in
     let r = resume_at s past e k.0 n k.1 in
     let x = value_of (answer_of past k.0.0) r.answered in
-    let y : e.reply ≡ or_done (and_then (answer_of past k.0.0) answer_reply) = n.reply ∙ ap (reply_to s past e.domain.0) k.1 ∙ resumed_reply s past e.domain.0 k.0 in
+    let y : e.reply ≡ or_done (option_and_then answer_reply (answer_of past k.0.0)) = n.reply ∙ ap (reply_to s past e.domain.0) k.1 ∙ resumed_reply s past e.domain.0 k.0 in
     let kept : x.0 ≡ Answer.Discarded → ⊥ = λ z. clash (has_live_caller past k.0.0) r.caller (discarded s past k.0.0 a (x.1 ∙ ap (λ (w : Answer). Some w) z)) in
-    ap (λ (m : ℕ). and_then (answer_of past m) answer_reply) (sym k.2) ∙ given_of (answer_of past k.0.0) x.0 x.1 kept ∙ ap (λ (w : Reply). Some w) (sym y)
+    ap (λ (m : ℕ). option_and_then answer_reply (answer_of past m)) (sym k.2) ∙ given_of (answer_of past k.0.0) x.0 x.1 kept ∙ ap (λ (w : Reply). Some w) (sym y)
 
 -- a take gives what its call asked, a resume the answer
 pub copies_hold : (s : System) (whole : Past) → IsAdmittedPast s whole → CopiesHold whole

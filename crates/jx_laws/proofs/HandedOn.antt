@@ -12,7 +12,6 @@ use Rattle.jx_base.specs.declared.ids.MethodId.{MethodId}
 use Rattle.jx_base.specs.declared.ids.ServiceId.{ServiceId}
 use Rattle.jx_base.specs.declared.value.Parcel.{Parcel}
 use Rattle.jx_base.specs.declared.program.System.{System}
-use Rattle.jx_base.specs.Basics.{and_then}
 use Rattle.jx_base.specs.Histories.{Past, is_done, nth_entry}
 use Rattle.jx_model.specs.Moments.{IsMoment}
 use Rattle.jx_model.specs.Portals.{received_parcel}
@@ -23,6 +22,7 @@ use Rattle.jx_model.proofs.Growing.{moment, before_admitted}
 use Rattle.jx_laws.specs.Handed.{WasSent, ParcelsWereHeld}
 use Rattle.jx_laws.proofs.Basics.{unturned, nth_moment, moment_more}
 use Rattle.jx_laws.proofs.Standing.{IsCallAct, queued_at}
+use Rattle.std.specs.Option.{option_and_then}
 
 -- ---- parcels of calls
 
@@ -37,10 +37,10 @@ asked_call a x y h = parcel_of y.service y.method y.parcel x (ap asked_by (sym y
 
 -- what a call asked stands in its entry
 asked_parts : (past : Past) (c : ℕ) (a : Asked) → asked_of past c ≡ Some a → (x : Entry) × (nth_entry is_call past c ≡ Some x) × (asked_by x.act ≡ Some a)
-unfolding asked_of call_entry and_then
+unfolding asked_of call_entry
 asked_parts past c a h = by (nth_entry is_call past c) refl h
   where
-    by : (o : Option Entry) → nth_entry is_call past c ≡ o → and_then o (λ e. asked_by e.act) ≡ Some a → (x : Entry) × (nth_entry is_call past c ≡ Some x) × (asked_by x.act ≡ Some a)
+    by : (o : Option Entry) → nth_entry is_call past c ≡ o → option_and_then (λ e. asked_by e.act) o ≡ Some a → (x : Entry) × (nth_entry is_call past c ≡ Some x) × (asked_by x.act ≡ Some a)
     by None q h = cc
     by (Some x) q h = (x, q, h)
 
@@ -168,8 +168,8 @@ job_parcel c None p h = cc
 job_parcel c (Some a) p h = (a, refl, cc (h))
 
 -- a resume hands over the parcel of the answer
-resumed_parcel : (c : CallId) (o : Option Answer) (p : Parcel) → received_parcel (act.Resume c) (or_done (and_then o answer_reply)) ≡ Some p → (a : Answer) × (o ≡ Some a) × Carries a p
-unfolding received_parcel or_done and_then answer_reply
+resumed_parcel : (c : CallId) (o : Option Answer) (p : Parcel) → received_parcel (act.Resume c) (or_done (option_and_then answer_reply o)) ≡ Some p → (a : Answer) × (o ≡ Some a) × Carries a p
+unfolding received_parcel or_done answer_reply
 resumed_parcel c None p h = cc
 resumed_parcel c (Some (Answer.Value q)) p h = (Answer.Value q, refl, inl (let z : q ≡ p = cc (h) in ap Answer.Value z))
 resumed_parcel c (Some (Answer.Thrown q)) p h = (Answer.Thrown q, refl, inr (let z : q ≡ p = cc (h) in ap Answer.Thrown z))

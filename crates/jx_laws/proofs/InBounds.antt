@@ -6,7 +6,7 @@ use Rattle.jx_base.specs.declared.act.Act.{Act}
 use Rattle.jx_base.specs.declared.act.Act.TheVariants as act
 use Rattle.jx_base.specs.declared.act.Entry.{Entry}
 use Rattle.jx_base.specs.declared.program.System.{System}
-use Rattle.jx_base.specs.Basics.{numbered, mapped, or_zero, not_below_zero, low_byte}
+use Rattle.jx_base.specs.Basics.{numbered, not_below_zero, low_byte}
 use Rattle.jx_base.specs.Histories.{Past, is_done, nth_entry}
 use Rattle.jx_model.specs.MemoryObjects.{Part, is_allocation, makes_extent, allocation_of, allocated_bytes, objects_of, objects_made, object_part, extents_made}
 use Rattle.jx_model.specs.Bytes.{covers, offset_in, object_byte, byte_after, byte_at}
@@ -20,11 +20,12 @@ use Rattle.jx_laws.proofs.Parts.{NewPart, OfExtent, OfParent, OfEnded, IsWholeEx
 use Rattle.jx_laws.proofs.Lineage.{part_before, no_part}
 use Rattle.jx_laws.proofs.Runs.{runs_within}
 use Rattle.jx_laws.proofs.Allocated.{used_once_made}
+use Rattle.std.specs.Option.{option_map, unwrap_or}
 
 -- ---- extents keep their sizes
 
 -- the size of an extent by the entry that made it
-size_is : (past : Past) (x : ℕ) → extent_size past x ≡ or_zero (mapped (λ e. allocated_bytes e.act) (nth_entry is_allocation past x))
+size_is : (past : Past) (x : ℕ) → extent_size past x ≡ unwrap_or (option_map (λ e. allocated_bytes e.act) (nth_entry is_allocation past x)) 0
 unfolding extent_size allocation_of
 size_is past x = refl
 
@@ -32,12 +33,11 @@ size_is past x = refl
 pub size_stays : (e : Entry) (past : Past) (x : ℕ) → 1 ≤ x → x ≤ extents_made past → extent_size (e ∷ past) x ≡ extent_size past x
 size_stays e past x l u =
     let y = value_of (nth_entry is_allocation past x) (nth_there is_allocation past x l u) in
-    size_is (e ∷ past) x ∙ ap (λ (o : Option Entry). or_zero (mapped (λ z. allocated_bytes z.act) o)) (nth_stays is_allocation e past x y.0 y.1 ∙ sym y.1) ∙ sym (size_is past x)
+    size_is (e ∷ past) x ∙ ap (λ (o : Option Entry). unwrap_or (option_map (λ z. allocated_bytes z.act) o) 0) (nth_stays is_allocation e past x y.0 y.1 ∙ sym y.1) ∙ sym (size_is past x)
 
 -- the size of a new extent is what its alloc asked for
 size_new : (e : Entry) (past : Past) (x : ℕ) → is_allocation e ≡ true → x ≡ extents_made past + 1 → extent_size (e ∷ past) x ≡ allocated_bytes e.act
-unfolding or_zero mapped
-size_new e past x h q = size_is (e ∷ past) x ∙ ap (λ (o : Option Entry). or_zero (mapped (λ z. allocated_bytes z.act) o)) (nth_new is_allocation e past x h q)
+size_new e past x h q = size_is (e ∷ past) x ∙ ap (λ (o : Option Entry). unwrap_or (option_map (λ z. allocated_bytes z.act) o) 0) (nth_new is_allocation e past x h q)
 
 -- a part that lies within its extent still does as the past grows
 within_stays : (e : Entry) (past : Past) (o : Part) → LiesWithin past o → LiesWithin (e ∷ past) o

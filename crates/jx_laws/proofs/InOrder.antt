@@ -5,7 +5,7 @@ use Rattle.jx_base.specs.declared.act.Act.TheVariants as act
 use Rattle.jx_base.specs.declared.act.Entry.{Entry}
 use Rattle.jx_base.specs.declared.ids.CallId.{CallId}
 use Rattle.jx_base.specs.declared.program.System.{System}
-use Rattle.jx_base.specs.Basics.{and_then, mapped, passes, is_number}
+use Rattle.jx_base.specs.Basics.{passes, is_number}
 use Rattle.jx_base.specs.Histories.{Past, is_own}
 use Rattle.jx_model.specs.Domains.{is_live, IsLive}
 use Rattle.jx_model.specs.Threads.{served_call, served_after, is_of_thread}
@@ -24,15 +24,16 @@ use Rattle.jx_laws.proofs.Servers.{server_by}
 use Rattle.jx_laws.proofs.OneAnswer.{answer_at, entry_answers}
 use Rattle.jx_laws.proofs.Standing.{open_before, server_lives}
 use Rattle.jx_laws.proofs.Threads.{thread_of, IsMadeBy, waiter_made, take_first, resume_waits}
+use Rattle.std.specs.Option.{option_and_then, option_map}
 
 -- ---- takes
 
 -- the first of a queue, and its owner
-head_first : (past : Past) (d c : ℕ) → is_head past d c ≡ true → (server_of past c ≡ Some d) × (and_then (service_of_call past c) (queue_head past) ≡ Some c)
+head_first : (past : Past) (d c : ℕ) → is_head past d c ≡ true → (server_of past c ≡ Some d) × (option_and_then (queue_head past) (service_of_call past c) ≡ Some c)
 unfolding is_head
 head_first past d c h =
-    let x = both (is_number (server_of past c) d) (is_number (and_then (service_of_call past c) (queue_head past)) c) h in
-    (is_it (server_of past c) d x.0, is_it (and_then (service_of_call past c) (queue_head past)) c x.1)
+    let x = both (is_number (server_of past c) d) (is_number (option_and_then (queue_head past) (service_of_call past c)) c) h in
+    (is_it (server_of past c) d x.0, is_it (option_and_then (queue_head past) (service_of_call past c)) c x.1)
 
 -- a take is of a queued call, the first of its queue
 take_in_turn : (s : System) (past : Past) (e : Entry) (c : ℕ) → IsNext s past e → is_take_of c e.act ≡ true → IsTakenInTurn past e.domain.0 c
@@ -75,9 +76,9 @@ answer_in_turn s past e c a n h =
 
 -- who made a call, and in which thread
 by_caller : (past : Past) (d t c : ℕ) → IsMadeBy past d t c → (caller_of past c ≡ Some d) × (calling_thread past c ≡ Some t)
-unfolding caller_of calling_thread mapped
+unfolding caller_of calling_thread
 by_caller past d t c x =
-    (ap (mapped (λ e. e.domain.0)) x.is ∙ ap (λ (n : ℕ). Some n) x.domain, ap (mapped (λ e. e.thread.0)) x.is ∙ ap (λ (n : ℕ). Some n) x.thread)
+    (ap (option_map (λ e. e.domain.0)) x.is ∙ ap (λ (n : ℕ). Some n) x.domain, ap (option_map (λ e. e.thread.0)) x.is ∙ ap (λ (n : ℕ). Some n) x.thread)
 
 -- a resume is by the thread that made the call
 resume_in_turn : (s : System) (past : Past) (e : Entry) (c : ℕ) → IsAdmittedPast s past → IsNext s past e → is_resume_of c e.act ≡ true → IsResumedInTurn past e.domain.0 e.thread.0 c

@@ -10,7 +10,7 @@ use Rattle.jx_base.specs.declared.act.Refusal.{Refusal}
 use Rattle.jx_base.specs.declared.act.Refusal.TheVariants as refusal
 use Rattle.jx_base.specs.declared.act.Entry.{Entry}
 use Rattle.jx_base.specs.declared.program.System.{System}
-use Rattle.jx_base.specs.Basics.{and_then, mapped, or_zero, up_to, not_below_zero}
+use Rattle.jx_base.specs.Basics.{up_to, not_below_zero}
 use Rattle.program_model.specs.Limits.{granule_limit}
 use Rattle.jx_base.specs.Histories.{Past, nth_entry, count_where}
 use Rattle.jx_model.specs.Domains.{is_birth, makes_domain, domains_made, is_made, is_live, birth_of, template_named, named_template, template_of, heap_place_of, reply_granule}
@@ -27,6 +27,7 @@ use Rattle.jx_laws.proofs.Living.{live_made, live_before}
 use Rattle.jx_laws.proofs.Uses.{made_within}
 use Rattle.jx_laws.proofs.InUse.{in_use_before}
 use Rattle.jx_laws.proofs.Apart.{AreClear, apart_places, apart_append, clear_runs, apart_runs, all_clear, run_lies, lies_first, lies_second, least_unused, least_below, get_runs}
+use Rattle.std.specs.Option.{option_and_then, option_map, unwrap_or}
 
 -- ---- owners of granules
 
@@ -135,7 +136,7 @@ birth_is s past e n h =
 
 -- the granules of a heap, by the entry that made its domain
 abbrev pub heap_by : System → Option Entry → Run
-heap_by s o = (or_zero (mapped (λ e. reply_granule e.reply) o), or_zero (mapped (heap_granules s) (and_then o (λ e. named_template s e.act))))
+heap_by s o = (unwrap_or (option_map (λ e. reply_granule e.reply) o) 0, unwrap_or (option_map (heap_granules s) (option_and_then (λ e. named_template s e.act) o)) 0)
 
 -- the granules of a heap by the entry that made its domain
 heap_is : (s : System) (past : Past) (d : ℕ) → heap_run s past d ≡ heap_by s (nth_entry is_birth past d)
@@ -151,8 +152,7 @@ heap_stays s e past d h =
 
 -- the granules of a heap whose template is known
 heap_by_birth : (s : System) (e : Entry) (t : ℕ) → named_template s e.act ≡ Some t → heap_by s (Some e) ≡ (reply_granule e.reply, heap_granules s t)
-unfolding or_zero mapped and_then
-heap_by_birth s e t h = ap (λ (o : Option ℕ). (reply_granule e.reply, or_zero (mapped (heap_granules s) o))) h
+heap_by_birth s e t h = ap (λ (o : Option ℕ). (reply_granule e.reply, unwrap_or (option_map (heap_granules s) o) 0)) h
 
 -- the granules of a new domain were unused
 pub new_heap : (s : System) (past : Past) (e : Entry) (d : ℕ) → IsNext s past e → is_birth e ≡ true → d ≡ domains_made past + 1 → IsUnused s past (heap_run s (e ∷ past) d)

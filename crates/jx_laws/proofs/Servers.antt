@@ -2,7 +2,6 @@
 use Rattle.std.proofs.Common.{◌≡◌, refl, ◌∙◌, ap, ℕ, ◌≤◌, true, [], ◌∷◌, ◌++◌, Option, Some, None, arith}
 use Rattle.std.specs.List.{list_any}
 use Rattle.jx_base.specs.declared.act.Entry.{Entry}
-use Rattle.jx_base.specs.Basics.{and_then, mapped}
 use Rattle.jx_base.specs.Histories.{Past, nth_entry}
 use Rattle.jx_model.specs.Moments.{IsMoment, NonePasses}
 use Rattle.jx_model.specs.Domains.{is_live, ended_by}
@@ -12,29 +11,30 @@ use Rattle.jx_base.proofs.NthEntries.{nth_stays, count_grows}
 use Rattle.jx_model.proofs.CallSteps.{service_made}
 use Rattle.jx_model.proofs.Serving.{Takes, is_it, not_ended_yet}
 use Rattle.jx_laws.proofs.Living.{ended_none}
+use Rattle.std.specs.Option.{option_and_then, option_map}
 
 -- ---- owners and servers stay
 
 -- a service keeps its owner
 pub owner_stays : (e : Entry) (past : Past) (k d : ℕ) → owner_of past k ≡ Some d → owner_of (e ∷ past) k ≡ Some d
-unfolding owner_of export_of mapped
+unfolding owner_of export_of
 owner_stays e past k d h = by (nth_entry is_export past k) refl h
   where
-    by : (o : Option Entry) → nth_entry is_export past k ≡ o → mapped (λ x. x.domain.0) o ≡ Some d → mapped (λ x. x.domain.0) (nth_entry is_export (e ∷ past) k) ≡ Some d
+    by : (o : Option Entry) → nth_entry is_export past k ≡ o → option_map (λ x. x.domain.0) o ≡ Some d → option_map (λ x. x.domain.0) (nth_entry is_export (e ∷ past) k) ≡ Some d
     by None q h = cc
-    by (Some x) q h = ap (mapped (λ x. x.domain.0)) (nth_stays is_export e past k x q) ∙ h
+    by (Some x) q h = ap (option_map (λ x. x.domain.0)) (nth_stays is_export e past k x q) ∙ h
 
 -- the server of a call owns its service
 pub server_by : (past : Past) (c k d : ℕ) → service_of_call past c ≡ Some k → owner_of past k ≡ Some d → server_of past c ≡ Some d
-unfolding server_of and_then
-server_by past c k d h i = ap (λ (o : Option ℕ). and_then o (owner_of past)) h ∙ i
+unfolding server_of
+server_by past c k d h i = ap (λ (o : Option ℕ). option_and_then (owner_of past) o) h ∙ i
 
 -- a call with a server has a service that the server owns
 pub server_parts : (past : Past) (c d : ℕ) → server_of past c ≡ Some d → (k : ℕ) × (service_of_call past c ≡ Some k) × (owner_of past k ≡ Some d)
-unfolding server_of and_then
+unfolding server_of
 server_parts past c d h = by (service_of_call past c) refl h
   where
-    by : (o : Option ℕ) → service_of_call past c ≡ o → and_then o (owner_of past) ≡ Some d → (k : ℕ) × (service_of_call past c ≡ Some k) × (owner_of past k ≡ Some d)
+    by : (o : Option ℕ) → service_of_call past c ≡ o → option_and_then (owner_of past) o ≡ Some d → (k : ℕ) × (service_of_call past c ≡ Some k) × (owner_of past k ≡ Some d)
     by None q h = cc
     by (Some k) q h = (k, q, h)
 

@@ -8,7 +8,7 @@ use Rattle.jx_base.specs.declared.act.Refusal.{Refusal}
 use Rattle.jx_base.specs.declared.ids.CallId.{CallId}
 use Rattle.jx_base.specs.declared.ids.ObjectId.{ObjectId}
 use Rattle.jx_base.specs.declared.program.System.{System}
-use Rattle.jx_base.specs.Basics.{and_then, contains_number}
+use Rattle.jx_base.specs.Basics.{contains_number}
 use Rattle.jx_base.specs.Histories.{Past}
 use Rattle.jx_model.specs.Portals.{received_parcel}
 use Rattle.jx_model.specs.Calls.{Asked, Answer, asked_of, answer_of}
@@ -16,6 +16,7 @@ use Rattle.jx_model.specs.MemoryObjects.{Part, objects_made}
 use Rattle.jx_model.specs.Holding.{received_objects, objects_in, answer_objects, asked_objects}
 use Rattle.jx_model.specs.Replies.{reply_to, with_object, allocated, derived, divided, one_object, new_object, given_or, job_of, or_done, answer_reply, ◌refuses◌else◌}
 use Rattle.jx_laws.proofs.Lists.{no_number, contains_first, contains_one}
+use Rattle.std.specs.Option.{option_and_then}
 
 -- the act, so answered, hands over the object
 abbrev pub Gives : Act → ℕ → Reply → Type 0
@@ -95,8 +96,8 @@ asked_gives c None m h = h
 asked_gives c (Some a) m h = h
 
 -- a resume hands over what the answer carries
-answer_gives : (c : CallId) (o : Option Answer) (m : ℕ) → Gives (act.Resume c) m (or_done (and_then o answer_reply)) → contains_number (answer_objects o) m ≡ true
-unfolding received_objects objects_in received_parcel or_done and_then answer_reply answer_objects
+answer_gives : (c : CallId) (o : Option Answer) (m : ℕ) → Gives (act.Resume c) m (or_done (option_and_then answer_reply o)) → contains_number (answer_objects o) m ≡ true
+unfolding received_objects objects_in received_parcel or_done answer_reply answer_objects
 answer_gives c None m h = h
 answer_gives c (Some (Answer.Value p)) m h = h
 answer_gives c (Some (Answer.Thrown p)) m h = h

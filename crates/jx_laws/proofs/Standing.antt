@@ -12,7 +12,7 @@ use Rattle.jx_base.specs.declared.ids.MethodId.{MethodId}
 use Rattle.jx_base.specs.declared.ids.ServiceId.{ServiceId}
 use Rattle.jx_base.specs.declared.value.Parcel.{Parcel}
 use Rattle.jx_base.specs.declared.program.System.{System}
-use Rattle.jx_base.specs.Basics.{and_then, mapped, passes}
+use Rattle.jx_base.specs.Basics.{passes}
 use Rattle.jx_base.specs.Histories.{Past, count_where}
 use Rattle.jx_model.specs.Domains.{is_live, ended_by, ended_by_act, reason_for}
 use Rattle.jx_model.specs.Portals.{owner_of, has_live_owner, holds_portal}
@@ -29,6 +29,7 @@ use Rattle.jx_laws.proofs.Living.{live_stays, reasonless}
 use Rattle.jx_laws.proofs.CallFacts.{entry_there}
 use Rattle.jx_laws.proofs.Servers.{owner_stays, server_by, server_stays}
 use Rattle.jx_laws.proofs.OneAnswer.{answer_kept}
+use Rattle.std.specs.Option.{option_and_then, option_map}
 
 -- ---- what a queued call needed
 
@@ -100,16 +101,16 @@ call_no_end e d a =
     ap (λ (x : Option (ℕ × Reason)). reason_for x d) (ap (λ (y : Act). ended_by_act e.domain.0 y e.reply) a.is ∙ call_ends e.domain.0 a.service a.method a.parcel e.reply) ∙ reason_none d
 
 -- the service that a call asks
-call_service : (k : ServiceId) (m : MethodId) (p : Parcel) → mapped (λ a. a.service.0) (asked_by (act.Call k m p)) ≡ Some k.0
-unfolding asked_by mapped
+call_service : (k : ServiceId) (m : MethodId) (p : Parcel) → option_map (λ a. a.service.0) (asked_by (act.Call k m p)) ≡ Some k.0
+unfolding asked_by
 call_service k m p = refl
 
 -- the service of a new call
 pub service_new : (e : Entry) (past : Past) (c : ℕ) → is_call e ≡ true → c ≡ calls_made past + 1 → (a : IsCallAct e.act) → service_of_call (e ∷ past) c ≡ Some a.service.0
-unfolding service_of_call asked_of call_entry and_then
+unfolding service_of_call asked_of call_entry
 service_new e past c h q a =
-    ap (λ (o : Option Entry). mapped (λ x. x.service.0) (and_then o (λ y. asked_by y.act))) (nth_new is_call e past c h q)
-    ∙ ap (λ (y : Act). mapped (λ x. x.service.0) (asked_by y)) a.is
+    ap (λ (o : Option Entry). option_map (λ x. x.service.0) (option_and_then (λ y. asked_by y.act) o)) (nth_new is_call e past c h q)
+    ∙ ap (λ (y : Act). option_map (λ x. x.service.0) (asked_by y)) a.is
     ∙ call_service a.service a.method a.parcel
 
 -- a server that is live is there

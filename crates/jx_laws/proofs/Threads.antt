@@ -14,7 +14,7 @@ use Rattle.jx_base.specs.declared.value.Parcel.{Parcel}
 use Rattle.jx_base.specs.declared.program.System.{System}
 use Rattle.jx_base.specs.declared.states.ThreadState.{ThreadState}
 use Rattle.jx_base.specs.declared.states.ThreadState.TheVariants as thread
-use Rattle.jx_base.specs.Basics.{and_then, mapped, passes}
+use Rattle.jx_base.specs.Basics.{passes}
 use Rattle.jx_base.specs.Histories.{Past, is_own}
 use Rattle.jx_model.specs.Domains.{is_live}
 use Rattle.jx_model.specs.Threads.{thread_state, thread_where, state_by_last, state_after, serving_state, served_call, is_of_thread, last_of_thread, service_threads, running_thread}
@@ -26,6 +26,7 @@ use Rattle.jx_base.proofs.BasicLaws.{both, eq_of}
 use Rattle.jx_base.proofs.NthEntries.{nth_new, nth_stays}
 use Rattle.jx_model.proofs.Acting.{where_passes}
 use Rattle.jx_model.proofs.Serving.{in_domain, of_none}
+use Rattle.std.specs.Option.{option_and_then, option_map}
 
 -- ---- a queued call has the next number
 
@@ -99,8 +100,8 @@ unfolding is_waiting_for
 running_waits c = refl
 
 -- a value that passes comes of one that is there
-mapped_passes : (f : ServiceId → ThreadState) (p : ThreadState → Bool) (o : Option ServiceId) → passes p (mapped f o) ≡ true → (k : ServiceId) × (p (f k) ≡ true)
-unfolding passes mapped
+mapped_passes : (f : ServiceId → ThreadState) (p : ThreadState → Bool) (o : Option ServiceId) → passes p (option_map f o) ≡ true → (k : ServiceId) × (p (f k) ≡ true)
+unfolding passes
 mapped_passes f p None h = cc
 mapped_passes f p (Some k) h = (k, h)
 
@@ -199,8 +200,7 @@ chosen true t x h = (refl, h)
 chosen false t x h = cc
 
 -- what comes of a value that is there
-of_then : (o : Option ℕ) (f : ℕ → Option ℕ) (t : ℕ) → and_then o f ≡ Some t → (k : ℕ) × (o ≡ Some k) × (f k ≡ Some t)
-unfolding and_then
+of_then : (o : Option ℕ) (f : ℕ → Option ℕ) (t : ℕ) → option_and_then f o ≡ Some t → (k : ℕ) × (o ≡ Some k) × (f k ≡ Some t)
 of_then None f t h = cc
 of_then (Some k) f t h = (k, refl, h)
 
@@ -209,7 +209,7 @@ pub take_first : (s : System) (past : Past) (d t : ℕ) (c : CallId) → acting_
 unfolding is_halt zero_may domain_thread may_perform is_zero_act is_choice choice_thread taking_thread idle_thread
 take_first s past d t c h =
     let n = of_none (running_thread past d) (is_live past d) t (taking_thread past d c.0) (in_domain s past d t (act.Take c) refl refl h).1 in
-    let q = chosen (is_head past d c.0) t (and_then (service_of_call past c.0) (idle_thread past d)) n.2 in
+    let q = chosen (is_head past d c.0) t (option_and_then (idle_thread past d) (service_of_call past c.0)) n.2 in
     let k = of_then (service_of_call past c.0) (idle_thread past d) t q.1 in
     (q.0, idle_serves past d t k.0 (where_passes past d t (is_idle_for k.0) k.2))
 

@@ -13,7 +13,7 @@ use Rattle.jx_base.specs.declared.ids.MethodId.{MethodId}
 use Rattle.jx_base.specs.declared.ids.ServiceId.{ServiceId}
 use Rattle.jx_base.specs.declared.value.Parcel.{Parcel}
 use Rattle.jx_base.specs.declared.program.System.{System}
-use Rattle.jx_base.specs.Basics.{and_then, contains_number, up_to}
+use Rattle.jx_base.specs.Basics.{contains_number, up_to}
 use Rattle.program_model.specs.ParcelParts.{parcel_objects, parcel_portals}
 use Rattle.jx_base.specs.Histories.{Past, is_done, is_own}
 use Rattle.jx_model.specs.Domains.{is_made, is_live, domains_made}
@@ -36,6 +36,7 @@ use Rattle.jx_laws.proofs.Standing.{queued_at, open_before}
 use Rattle.jx_laws.proofs.HandedOn.{back_held}
 use Rattle.jx_laws.proofs.Sources.{Source, Fresh, FromCall, FromAnswer, source}
 use Rattle.jx_laws.proofs.Ranges.{count_range, range_count, each}
+use Rattle.std.specs.Option.{option_and_then}
 
 -- the object is held by a domain or carried by a call
 pub data Use (past : Past) (m : ℕ) : Type 0 where
@@ -243,8 +244,8 @@ asked_call k n p m h = h
 
 -- what a new call asked
 asked_new : (e : Entry) (past : Past) (c : ℕ) → is_call e ≡ true → c ≡ calls_made past + 1 → asked_of (e ∷ past) c ≡ asked_by e.act
-unfolding asked_of call_entry and_then
-asked_new e past c h q = ap (λ (o : Option Entry). and_then o (λ y. asked_by y.act)) (nth_new is_call e past c h q)
+unfolding asked_of call_entry
+asked_new e past c h q = ap (λ (o : Option Entry). option_and_then (λ y. asked_by y.act) o) (nth_new is_call e past c h q)
 
 -- what a new call carries, its caller held
 new_call_held : (s : System) (past : Past) (e : Entry) (c m : ℕ) → IsNext s past e → is_call e ≡ true → c ≡ calls_made past + 1 → contains_number (asked_objects (asked_of (e ∷ past) c)) m ≡ true → Use past m

@@ -12,7 +12,7 @@ use Rattle.jx_base.specs.declared.program.Class.{Class}
 use Rattle.jx_base.specs.declared.program.Selector.{Selector}
 use Rattle.jx_base.specs.declared.program.System.{System}
 use Rattle.jx_base.specs.declared.program.Template.{Template}
-use Rattle.jx_base.specs.Basics.{contains_number, mapped, passes, and_then}
+use Rattle.jx_base.specs.Basics.{contains_number, passes}
 use Rattle.jx_base.specs.Histories.{Past, is_done}
 use Rattle.jx_model.specs.Moments.{IsMoment, NonePasses}
 use Rattle.jx_model.specs.Domains.{is_live}
@@ -24,6 +24,7 @@ use Rattle.jx_model.specs.Granules.{Run, used_runs, lies_in}
 use Rattle.jx_model.specs.Replies.{answer_reply, holds_all, job_of}
 use Rattle.jx_model.specs.Legal.{IsAdmitted}
 use Rattle.audit_model.specs.AuditText.{audit_text, call_line}
+use Rattle.std.specs.Option.{option_and_then, option_map}
 
 -- ---- revocation
 
@@ -76,7 +77,7 @@ pub record IsOpen (whole : Past) (c : ℕ) (past : Past) : Type 0 where
 -- no entry of a past resumes after the call, and the reply gives its answer
 pub record IsFirstResume (c : ℕ) (past : Past) (r : Reply) : Type 0 where
   pub waiting : NonePasses (λ f. is_resume_of c f.act) past
-  pub given : and_then (answer_of past c) answer_reply ≡ Some r
+  pub given : option_and_then answer_reply (answer_of past c) ≡ Some r
 
 -- each call has at most one take, one return or throw and one resume, each in its time
 pub record OneAnswerHolds (whole : Past) : Type 0 where
@@ -130,6 +131,6 @@ ReceivedHolds whole =
 -- a take gives what its call asked, a resume the answer
 pub record CopiesHold (whole : Past) : Type 0 where
   pub takes : (e : Entry) (past : Past) (c : ℕ) →
-      IsMoment whole e past → IsTrue (is_take_of c e.act) → mapped (λ a. job_of (Some a)) (asked_of past c) ≡ Some e.reply
+      IsMoment whole e past → IsTrue (is_take_of c e.act) → option_map (λ a. job_of (Some a)) (asked_of past c) ≡ Some e.reply
   pub resumes : (e : Entry) (past : Past) (c : ℕ) →
-      IsMoment whole e past → IsTrue (is_resume_of c e.act) → and_then (answer_of past c) answer_reply ≡ Some e.reply
+      IsMoment whole e past → IsTrue (is_resume_of c e.act) → option_and_then answer_reply (answer_of past c) ≡ Some e.reply

@@ -2,18 +2,18 @@
 use Rattle.std.specs.Prelude.{◌≡◌, ℕ, ◌↔◌, Some, IsTrue}
 use Rattle.jx_base.specs.declared.act.Entry.{Entry}
 use Rattle.jx_base.specs.declared.ids.CallId.{CallId}
-use Rattle.jx_base.specs.Basics.{and_then}
 use Rattle.jx_base.specs.Histories.{Past}
 use Rattle.jx_model.specs.Moments.{IsMoment}
 use Rattle.jx_model.specs.Domains.{IsLive}
 use Rattle.jx_model.specs.Threads.{served_call}
 use Rattle.jx_model.specs.Calls.{is_take_of, is_answer_to, is_resume_of, is_queued, IsBeingServed, IsResumable, service_of_call, server_of, caller_of, queue_head}
 use Rattle.jx_model.specs.Tables.{calling_thread}
+use Rattle.std.specs.Option.{option_and_then}
 
 -- a call that is taken: queued, the first of its service's queue, and the taker owns that service
 pub record IsTakenInTurn (past : Past) (d c : ℕ) : Type 0 where
   pub queued : IsTrue (is_queued past c)
-  pub first : and_then (service_of_call past c) (queue_head past) ≡ Some c
+  pub first : option_and_then (queue_head past) (service_of_call past c) ≡ Some c
   pub server : server_of past c ≡ Some d
 
 -- a call that is answered: it is being served by the thread that answers it, of the domain that owns its service

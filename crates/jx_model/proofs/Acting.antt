@@ -7,20 +7,20 @@ use Rattle.jx_base.specs.declared.act.Act.TheVariants as act
 use Rattle.jx_base.specs.declared.ids.ServiceId.{ServiceId}
 use Rattle.jx_base.specs.declared.program.System.{System}
 use Rattle.jx_base.specs.declared.states.ThreadState.{ThreadState}
-use Rattle.jx_base.specs.Basics.{and_then, mapped, passes}
+use Rattle.jx_base.specs.Basics.{passes}
 use Rattle.jx_base.specs.Histories.{Past}
 use Rattle.jx_model.specs.Domains.{is_live}
 use Rattle.jx_model.specs.Threads.{service_threads, threads_of, thread_state, thread_where, running_thread, is_running_state}
 use Rattle.jx_model.specs.Calls.{service_of_call, is_resumable}
 use Rattle.jx_model.specs.Permits.{acting_thread, is_over, zero_may_now, domains_wait, domain_thread, may_perform, choice_thread, taking_thread, is_head, idle_thread, is_idle_for, resuming_thread, is_waiting_for, going_thread, is_yielded}
 use Rattle.jx_base.proofs.BasicLaws.{found, none_found, passed}
+use Rattle.std.specs.Option.{option_and_then, option_map}
 
 chosen : (b : Bool) (t : ℕ) (x : Option ℕ) → (if b then x else None) ≡ Some t → (b ≡ true) × (x ≡ Some t)
 chosen true t x h = (refl, h)
 chosen false t x h = cc
 
-of_then : (o : Option ℕ) (f : ℕ → Option ℕ) (t : ℕ) → and_then o f ≡ Some t → (k : ℕ) × (o ≡ Some k) × (f k ≡ Some t)
-unfolding and_then
+of_then : (o : Option ℕ) (f : ℕ → Option ℕ) (t : ℕ) → option_and_then f o ≡ Some t → (k : ℕ) × (o ≡ Some k) × (f k ≡ Some t)
 of_then None f t h = cc
 of_then (Some k) f t h = (k, refl, h)
 
@@ -57,11 +57,11 @@ domain_cases past d t a h = by (running_thread past d) (is_live past d) h
 
 -- a thread that has a state is one of the domain's
 pub state_within : (past : Past) (d t : ℕ) (x : ThreadState) → thread_state past d t ≡ Some x → t ≤ length (service_threads past d)
-unfolding thread_state mapped
+unfolding thread_state
 state_within past d zero x h = omega arith
 state_within past d (suc t) x h = by _ (slice_get (service_threads past d) t) refl h
   where
-    by : (f : ServiceId → ThreadState) (o : Option ServiceId) → slice_get (service_threads past d) t ≡ o → mapped f o ≡ Some x → suc t ≤ length (service_threads past d)
+    by : (f : ServiceId → ThreadState) (o : Option ServiceId) → slice_get (service_threads past d) t ≡ o → option_map f o ≡ Some x → suc t ≤ length (service_threads past d)
     by f None q h = cc
     by f (Some k) q h = omega (arith, slice_get_within (service_threads past d) t k q)
 
@@ -99,7 +99,7 @@ none_runs past d t h l r =
 choice_within : (past : Past) (d t : ℕ) (a : Act) → choice_thread past d a ≡ Some t → t ≤ length (service_threads past d)
 unfolding choice_thread taking_thread resuming_thread going_thread idle_thread
 choice_within past d t (act.Take c) h =
-    let x = chosen (is_head past d c.0) t (and_then (service_of_call past c.0) (idle_thread past d)) h in
+    let x = chosen (is_head past d c.0) t (option_and_then (idle_thread past d) (service_of_call past c.0)) h in
     let y = of_then (service_of_call past c.0) (idle_thread past d) t x.1 in where_within past d t (is_idle_for y.0) y.2
 choice_within past d t (act.Resume c) h =
     where_within past d t (is_waiting_for c.0) (chosen (is_resumable past c.0) t (thread_where past d (is_waiting_for c.0)) h).1

@@ -11,7 +11,6 @@ use Rattle.jx_base.specs.declared.program.System.{System}
 use Rattle.jx_base.specs.declared.value.Parcel.{Parcel}
 use Rattle.jx_base.specs.declared.value.Word.{Word}
 use Rattle.jx_base.specs.declared.value.Word.TheVariants as word
-use Rattle.jx_base.specs.Basics.{and_then}
 use Rattle.program_model.specs.ParcelParts.{parcel_cells}
 use Rattle.jx_base.specs.Histories.{Past, past_of, nth_entry}
 use Rattle.jx_model.specs.Moments.{IsMoment, BeginsWith, HasGrown}
@@ -19,6 +18,7 @@ use Rattle.jx_model.specs.Portals.{is_export, export_of, interface_of, exported_
 use Rattle.jx_model.specs.WellMade.{IsWellMade, IsWordIn, IsParcelIn}
 use Rattle.jx_model.specs.Legal.{IsNext, IsAdmittedPast}
 use Rattle.jx_base.proofs.NthEntries.{nth_stays}
+use Rattle.std.specs.Option.{option_and_then}
 
 -- ---- moments
 
@@ -47,13 +47,13 @@ grown whole start b = (reverse b.0, ap reverse b.1 ∙ reverse-append start.entr
 -- ---- what is well made stays so
 
 interface_stays : (e : Entry) (past : Past) (k : ℕ) (c : ClassId) → interface_of past k ≡ Some c → interface_of (e ∷ past) k ≡ Some c
-unfolding interface_of export_of and_then
+unfolding interface_of export_of
 interface_stays e past k c h = by (nth_entry is_export past k) refl h
   where
-    by : (o : Option Entry) → nth_entry is_export past k ≡ o → and_then o (λ x. exported_interface x.act x.reply) ≡ Some c →
-        and_then (nth_entry is_export (e ∷ past) k) (λ x. exported_interface x.act x.reply) ≡ Some c
+    by : (o : Option Entry) → nth_entry is_export past k ≡ o → option_and_then (λ x. exported_interface x.act x.reply) o ≡ Some c →
+        option_and_then (λ x. exported_interface x.act x.reply) (nth_entry is_export (e ∷ past) k) ≡ Some c
     by None q h = cc
-    by (Some x) q h = ap (λ (o : Option Entry). and_then o (λ x. exported_interface x.act x.reply)) (nth_stays is_export e past k x q) ∙ h
+    by (Some x) q h = ap (λ (o : Option Entry). option_and_then (λ x. exported_interface x.act x.reply) o) (nth_stays is_export e past k x q) ∙ h
 
 word_stays : (e : Entry) (past : Past) (n : ℕ) (w : Word) → IsWordIn past n w → IsWordIn (e ∷ past) n w
 word_stays e past n (word.Portal k c) h = interface_stays e past k.0 c h

@@ -12,7 +12,7 @@ use Rattle.jx_base.specs.declared.ids.ServiceId.{ServiceId}
 use Rattle.jx_base.specs.declared.program.System.{System}
 use Rattle.jx_base.specs.declared.states.ThreadState.{ThreadState}
 use Rattle.jx_base.specs.declared.states.ThreadState.TheVariants as thread
-use Rattle.jx_base.specs.Basics.{mapped, passes}
+use Rattle.jx_base.specs.Basics.{passes}
 use Rattle.jx_base.specs.Histories.{Past, is_own}
 use Rattle.jx_model.specs.Journal.{is_full}
 use Rattle.jx_model.specs.Threads.{service_threads, new_threads_of, new_threads, is_of_thread, served_call, served_after, state_by_last, serving_state, last_of_thread, thread_state, is_running_state}
@@ -21,6 +21,7 @@ use Rattle.jx_model.specs.Legal.{IsNext, IsAdmittedPast}
 use Rattle.jx_model.specs.Growth.{RunsOneThread, Runs}
 use Rattle.jx_base.proofs.BasicLaws.{ap2, ap3, both, eq_of, and_false}
 use Rattle.jx_model.proofs.Acting.{acting_cases, domain_cases, acting_within, running_runs, none_runs}
+use Rattle.std.specs.Option.{option_map}
 
 -- ---- threads of other entries
 
@@ -42,7 +43,7 @@ pub other_thread : (e : Entry) (past : Past) (d t : ℕ) → is_of_thread d t e 
 unfolding thread_state
 other_thread e past d zero h n = ap (λ (o : Option Entry). Some (state_by_last thread.Running o)) (last_same e past d 0 h)
 other_thread e past d (suc t) h n =
-    ap3 (λ (c : Option CallId) (o : Option Entry) (ss : List ServiceId). mapped (state_with c o) (slice_get ss t))
+    ap3 (λ (c : Option CallId) (o : Option Entry) (ss : List ServiceId). option_map (state_with c o) (slice_get ss t))
     (serves_same e past d (suc t) h) (last_same e past d (suc t) h) n
 
 -- ---- Domain Zero has no service threads
@@ -126,8 +127,8 @@ below i n h = grind (arith, nat_tests)
 above : (i n : ℕ) → nat_lt i n ≡ false → n ≤ i
 above i n h = grind (arith, nat_tests)
 
-idles : {A : Type 0} (o : Option ServiceId) → passes is_running_state (mapped (state_with None None) o) ≡ true → A
-unfolding passes mapped state_by_last serving_state is_running_state
+idles : {A : Type 0} (o : Option ServiceId) → passes is_running_state (option_map (state_with None None) o) ≡ true → A
+unfolding passes state_by_last serving_state is_running_state
 idles None h = cc
 idles (Some k) h = cc
 
@@ -138,20 +139,20 @@ ran_before s past e d zero n h o r =
     ap (λ (x : Option Entry). passes is_running_state (Some (state_by_last thread.Running x))) (sym (last_same e past d 0 o)) ∙ r
 ran_before s past e d (suc t) n h o r = by (nat_lt t (length (service_threads past d))) refl
   where
-    same : passes is_running_state (mapped (state_with (served_call past d (suc t)) (last_of_thread past d (suc t))) (slice_get (service_threads (e ∷ past) d) t)) ≡ true
+    same : passes is_running_state (option_map (state_with (served_call past d (suc t)) (last_of_thread past d (suc t))) (slice_get (service_threads (e ∷ past) d) t)) ≡ true
     same =
-        ap2 (λ (c : Option CallId) (x : Option Entry). passes is_running_state (mapped (state_with c x) (slice_get (service_threads (e ∷ past) d) t)))
+        ap2 (λ (c : Option CallId) (x : Option Entry). passes is_running_state (option_map (state_with c x) (slice_get (service_threads (e ∷ past) d) t)))
         (sym (serves_same e past d (suc t) o)) (sym (last_same e past d (suc t) o))
         ∙ r
 
-    by : (b : Bool) → nat_lt t (length (service_threads past d)) ≡ b → passes is_running_state (mapped (state_with (served_call past d (suc t)) (last_of_thread past d (suc t))) (slice_get (service_threads past d) t)) ≡ true
+    by : (b : Bool) → nat_lt t (length (service_threads past d)) ≡ b → passes is_running_state (option_map (state_with (served_call past d (suc t)) (last_of_thread past d (suc t))) (slice_get (service_threads past d) t)) ≡ true
     by true q =
-        ap (λ (x : Option ServiceId). passes is_running_state (mapped (state_with (served_call past d (suc t)) (last_of_thread past d (suc t))) x)) (sym (get_old e past d t (below t (length (service_threads past d)) q)))
+        ap (λ (x : Option ServiceId). passes is_running_state (option_map (state_with (served_call past d (suc t)) (last_of_thread past d (suc t))) x)) (sym (get_old e past d t (below t (length (service_threads past d)) q)))
         ∙ same
     by false q =
         let i = absent s past d (suc t) h (omega (arith, above t (length (service_threads past d)) q)) in
         idles (slice_get (service_threads (e ∷ past) d) t)
-        (ap2 (λ (c : Option CallId) (x : Option Entry). passes is_running_state (mapped (state_with c x) (slice_get (service_threads (e ∷ past) d) t))) (sym i.serves) (sym i.last) ∙ same)
+        (ap2 (λ (c : Option CallId) (x : Option Entry). passes is_running_state (option_map (state_with c x) (slice_get (service_threads (e ∷ past) d) t))) (sym i.serves) (sym i.last) ∙ same)
 
 -- ---- one thread runs
 
@@ -168,13 +169,13 @@ quiet_other s past e t n one z r = elim (acting_cases s past e.domain.0 e.thread
 
 -- of Domain Zero's threads, thread 0 alone runs
 zero_runs : (s : System) (past : Past) (t : ℕ) → IsAdmittedPast s past → Runs past 0 t → t ≡ 0
-unfolding thread_state passes mapped
+unfolding thread_state passes
 zero_runs s past zero h r = refl
 zero_runs s past (suc t) h r =
-    cc (ap (λ (ss : List ServiceId). passes is_running_state (mapped (state_with (served_call past 0 (suc t)) (last_of_thread past 0 (suc t))) (slice_get ss t))) (sym (zero_threads s past h)), r)
+    cc (ap (λ (ss : List ServiceId). passes is_running_state (option_map (state_with (served_call past 0 (suc t)) (last_of_thread past 0 (suc t))) (slice_get ss t))) (sym (zero_threads s past h)), r)
 
 start_runs : (d t : ℕ) → Runs [] d t → t ≡ 0
-unfolding thread_state service_threads passes mapped
+unfolding thread_state service_threads passes
 start_runs d zero r = refl
 start_runs d (suc t) r = cc
 

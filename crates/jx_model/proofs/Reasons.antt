@@ -5,7 +5,7 @@ use Rattle.jx_base.specs.declared.act.Act.TheVariants as act
 use Rattle.jx_base.specs.declared.program.System.{System}
 use Rattle.jx_base.specs.declared.states.Why.{Why}
 use Rattle.jx_base.specs.declared.states.Why.TheVariants as why
-use Rattle.jx_base.specs.Basics.{and_then, mapped, is_number}
+use Rattle.jx_base.specs.Basics.{is_number}
 use Rattle.jx_base.specs.Histories.{Past}
 use Rattle.jx_model.specs.Journal.{is_full, words_of}
 use Rattle.jx_model.specs.Domains.{is_live}
@@ -13,6 +13,7 @@ use Rattle.jx_model.specs.Threads.{running_thread}
 use Rattle.jx_model.specs.Calls.{service_of_call}
 use Rattle.jx_model.specs.Permits.{acting_thread, is_halt, is_zero_act, is_choice, next_boot, first_alive, is_head, idle_thread, taking_thread, resuming_thread, going_thread, choice_thread, may_perform, domain_thread, zero_may, zero_may_now, domains_wait}
 use Rattle.jx_model.specs.WhyNot.{CanBeAsked, IsTold, why_if, why_not_take, why_not_asleep, why_not_running, why_not_domain, boot_or, why_not_zero, why_not}
+use Rattle.std.specs.Option.{option_and_then, option_map}
 
 if_none : (b : Bool) (w : Why) → is_none (why_if b w) ≡ not b
 unfolding why_if
@@ -39,7 +40,7 @@ take_told false o w v = refl
 
 asleep_told : (past : Past) (d : ℕ) (a : Act) → is_some (choice_thread past d a) ≡ is_none (why_not_asleep past d a)
 unfolding choice_thread taking_thread why_not_asleep why_not_take
-asleep_told past d (act.Take c) = take_told (is_head past d c.0) (and_then (service_of_call past c.0) (idle_thread past d)) _ _
+asleep_told past d (act.Take c) = take_told (is_head past d c.0) (option_and_then (idle_thread past d) (service_of_call past c.0)) _ _
 asleep_told past d (act.Resume c) = told (resuming_thread past d c.0) _
 asleep_told past d (act.Go t) = told (going_thread past d t.0) _
 asleep_told past d _ = refl
@@ -111,8 +112,8 @@ create_told (Some b) t = by (b == t)
     by true = refl
     by false = refl
 
-quiet_told : (o p : Option ℕ) → is_some (zero_if (is_none o && is_none p)) ≡ is_none (boot_or o (mapped (λ d. why.Alive (record { 0 = d })) p))
-unfolding boot_or mapped
+quiet_told : (o p : Option ℕ) → is_some (zero_if (is_none o && is_none p)) ≡ is_none (boot_or o (option_map (λ d. why.Alive (record { 0 = d })) p))
+unfolding boot_or
 quiet_told None None = refl
 quiet_told None (Some d) = refl
 quiet_told (Some b) p = refl

@@ -13,7 +13,7 @@ use Rattle.jx_base.specs.declared.act.Entry.{Entry}
 use Rattle.jx_base.specs.declared.program.System.{System}
 use Rattle.jx_base.specs.declared.ids.ServiceId.{ServiceId}
 use Rattle.jx_base.specs.declared.value.Parcel.{Parcel}
-use Rattle.jx_base.specs.Basics.{and_then, mapped, passes, is_number, contains_number}
+use Rattle.jx_base.specs.Basics.{passes, is_number, contains_number}
 use Rattle.jx_base.specs.Histories.{Past, is_done, is_own}
 use Rattle.jx_model.specs.Domains.{is_birth, makes_domain, birth_of, template_of, creator_of, heap_place_of, named_template, reply_granule, ended_by, ended_by_act, reason_for, end_reason, is_live, is_made}
 use Rattle.jx_model.specs.Threads.{service_threads, new_threads_of, new_threads}
@@ -28,6 +28,7 @@ use Rattle.jx_model.specs.Legal.{IsNext}
 use Rattle.jx_model.specs.Growth.{HasSameDomains, HasSameServices, HasSameObjects, HasSameCalls, HasSameBytes}
 use Rattle.jx_base.proofs.BasicLaws.{ap2, ap3, pick_false, and_true, and_false}
 use Rattle.jx_base.proofs.NthEntries.{nth_same, count_same}
+use Rattle.std.specs.Option.{option_and_then, option_map}
 
 -- ---- what a refusal is no instance of
 
@@ -183,9 +184,9 @@ module _ (s : System) (past : Past) (e : Entry) (r : Refusal) (next : IsNext s p
   same_domains =
       record {
         made = count_same is_birth e past birth;
-        template = λ d. ap (λ (o : Option Entry). and_then o (λ x. named_template s x.act)) (nth_same is_birth e past d birth);
-        creator = λ d. ap (λ (o : Option Entry). mapped (λ x. x.domain.0) o) (nth_same is_birth e past d birth);
-        place = λ d. ap (λ (o : Option Entry). mapped (λ x. reply_granule x.reply) o) (nth_same is_birth e past d birth);
+        template = λ d. ap (λ (o : Option Entry). option_and_then (λ x. named_template s x.act) o) (nth_same is_birth e past d birth);
+        creator = λ d. ap (λ (o : Option Entry). option_map (λ x. x.domain.0) o) (nth_same is_birth e past d birth);
+        place = λ d. ap (λ (o : Option Entry). option_map (λ x. reply_granule x.reply) o) (nth_same is_birth e past d birth);
         reason = reason;
         live = live;
         threads = threads;
@@ -195,7 +196,7 @@ module _ (s : System) (past : Past) (e : Entry) (r : Refusal) (next : IsNext s p
 
   owner : (k : ℕ) → owner_of (e ∷ past) k ≡ owner_of past k
   unfolding owner_of export_of
-  owner k = ap (λ (o : Option Entry). mapped (λ x. x.domain.0) o) (nth_same is_export e past k export)
+  owner k = ap (λ (o : Option Entry). option_map (λ x. x.domain.0) o) (nth_same is_export e past k export)
 
   live_owner : (k : ℕ) → has_live_owner (e ∷ past) k ≡ has_live_owner past k
   unfolding has_live_owner passes
@@ -211,10 +212,10 @@ module _ (s : System) (past : Past) (e : Entry) (r : Refusal) (next : IsNext s p
       ap (λ (o : Option ℕ). elim o as (λ _. Option ℕ) [ Some k ↦ Some k | None ↦ last_bound past units ]) (ap (bound_by_act units e.act) refused ∙ no_bind units e.act r)
 
   name : (units : List ℕ) → bound_service (e ∷ past) units ≡ bound_service past units
-  unfolding bound_service and_then
-  name units = ap (λ (o : Option ℕ). and_then o (λ k. if has_live_owner (e ∷ past) k then Some k else None)) (bound_before units) ∙ by (last_bound past units)
+  unfolding bound_service
+  name units = ap (λ (o : Option ℕ). option_and_then (λ k. if has_live_owner (e ∷ past) k then Some k else None) o) (bound_before units) ∙ by (last_bound past units)
     where
-      by : (o : Option ℕ) → and_then o (λ k. if has_live_owner (e ∷ past) k then Some k else None) ≡ and_then o (λ k. if has_live_owner past k then Some k else None)
+      by : (o : Option ℕ) → option_and_then (λ k. if has_live_owner (e ∷ past) k then Some k else None) o ≡ option_and_then (λ k. if has_live_owner past k then Some k else None) o
       by None = refl
       by (Some k) = ap (λ (b : Bool). if b then Some k else None) (live_owner k)
 
@@ -237,7 +238,7 @@ module _ (s : System) (past : Past) (e : Entry) (r : Refusal) (next : IsNext s p
       record {
         made = count_same is_export e past export;
         owner = owner;
-        interface = λ k. ap (λ (o : Option Entry). and_then o (λ x. exported_interface x.act x.reply)) (nth_same is_export e past k export);
+        interface = λ k. ap (λ (o : Option Entry). option_and_then (λ x. exported_interface x.act x.reply) o) (nth_same is_export e past k export);
         name = name;
         held = held;
       }
@@ -282,8 +283,8 @@ module _ (s : System) (past : Past) (e : Entry) (r : Refusal) (next : IsNext s p
   same_calls =
       record {
         made = count_same is_call e past call;
-        asked = λ c. ap (λ (o : Option Entry). and_then o (λ x. asked_by x.act)) (nth_same is_call e past c call);
-        caller = λ c. ap (λ (o : Option Entry). mapped (λ x. x.domain.0) o) (nth_same is_call e past c call);
+        asked = λ c. ap (λ (o : Option Entry). option_and_then (λ x. asked_by x.act) o) (nth_same is_call e past c call);
+        caller = λ c. ap (λ (o : Option Entry). option_map (λ x. x.domain.0) o) (nth_same is_call e past c call);
         answer = answer;
       }
 

@@ -14,7 +14,7 @@ use Rattle.jx_base.specs.declared.program.System.{System}
 use Rattle.jx_base.specs.declared.value.Parcel.{Parcel}
 use Rattle.jx_base.specs.declared.states.ThreadState.{ThreadState}
 use Rattle.jx_base.specs.declared.states.ThreadState.TheVariants as thread
-use Rattle.jx_base.specs.Basics.{mapped, passes, and_then}
+use Rattle.jx_base.specs.Basics.{passes}
 use Rattle.jx_base.specs.Histories.{Past, is_own}
 use Rattle.jx_model.specs.Domains.{is_live}
 use Rattle.jx_model.specs.Threads.{service_threads, is_of_thread, served_call, served_after, state_after, state_by_last, serving_state, last_of_thread, thread_state, is_running_state}
@@ -30,6 +30,7 @@ use Rattle.jx_model.proofs.OneThread.{state_with, other_thread}
 use Rattle.jx_model.proofs.CallSteps.{answer_made}
 use Rattle.jx_model.proofs.Serving.{in_domain, returns_it, throws_it, served, unanswered, last_serves, running_serves, after_return, after_throw, not_ended_yet}
 use Rattle.jx_model.proofs.Refusals.{same_domains, same_services, same_objects, same_calls, same_bytes}
+use Rattle.std.specs.Option.{option_and_then, option_map}
 
 -- ---- what a refused act is none of
 
@@ -38,8 +39,8 @@ unfolding job_of
 no_job r None h = cc
 no_job r (Some a) h = cc
 
-no_result : {A : Type 0} (r : Refusal) (o : Option Answer) → reply.Refused r ≡ or_done (and_then o answer_reply) → A
-unfolding or_done and_then answer_reply
+no_result : {A : Type 0} (r : Refusal) (o : Option Answer) → reply.Refused r ≡ or_done (option_and_then answer_reply o) → A
+unfolding or_done answer_reply
 no_result r None h = cc
 no_result r (Some (Answer.Value p)) h = cc
 no_result r (Some (Answer.Thrown p)) h = cc
@@ -167,16 +168,16 @@ module _ (s : System) (past : Past) (e : Entry) (r : Refusal) (next : IsNext s p
 
   -- the thread of the entry does what it did
   own_state : (d t : ℕ) → answers_call e.act ≡ false → is_of_thread d t e ≡ true → passes is_running_state (thread_state past d t) ≡ true → thread_state (e ∷ past) d t ≡ thread_state past d t
-  unfolding thread_state passes mapped
+  unfolding thread_state passes
   own_state d zero quiet q h =
       ap (λ (o : Option Entry). Some (state_by_last thread.Running o)) (last d 0 q)
       ∙ ap Some (stays thread.Running ∙ sym (at_base thread.Running (last_of_thread past d 0) h))
   own_state d (suc t) quiet q h =
-      ap3 (λ (c : Option CallId) (o : Option Entry) (ss : List ServiceId). mapped (state_with c o) (slice_get ss t)) (serves d (suc t) quiet q) (last d (suc t) q) ((same_domains s past e r next refused).threads d)
+      ap3 (λ (c : Option CallId) (o : Option Entry) (ss : List ServiceId). option_map (state_with c o) (slice_get ss t)) (serves d (suc t) quiet q) (last d (suc t) q) ((same_domains s past e r next refused).threads d)
       ∙ by (slice_get (service_threads past d) t) h
     where
-      by : (k : Option ServiceId) → passes is_running_state (mapped (state_with (served_call past d (suc t)) (last_of_thread past d (suc t))) k) ≡ true →
-          mapped (state_with (served_call past d (suc t)) (Some e)) k ≡ mapped (state_with (served_call past d (suc t)) (last_of_thread past d (suc t))) k
+      by : (k : Option ServiceId) → passes is_running_state (option_map (state_with (served_call past d (suc t)) (last_of_thread past d (suc t))) k) ≡ true →
+          option_map (state_with (served_call past d (suc t)) (Some e)) k ≡ option_map (state_with (served_call past d (suc t)) (last_of_thread past d (suc t))) k
       by None h = refl
       by (Some k) h =
           ap Some (stays (serving_state k (served_call past d (suc t))) ∙ sym (at_base (serving_state k (served_call past d (suc t))) (last_of_thread past d (suc t)) h))
@@ -198,7 +199,7 @@ module _ (s : System) (past : Past) (e : Entry) (r : Refusal) (next : IsNext s p
   -- the thread that served is idle
   idle_state : (d t : ℕ) (c : CallId) → passes (is_serving c.0) (thread_state past d t) ≡ true → is_of_thread d t e ≡ true →
       served_after (served_call past d t) e.act ≡ None → ((x : ThreadState) → state_after x e.act e.reply ≡ x) → IsIdle (e ∷ past) d t
-  unfolding thread_state passes mapped
+  unfolding thread_state passes
   idle_state d zero c h q n a = running_serves c.0 (last_serves c.0 thread.Running (last_of_thread past d 0) h)
   idle_state d (suc t) c h q n a = by (slice_get (service_threads past d) t) refl h
     where
@@ -206,11 +207,11 @@ module _ (s : System) (past : Past) (e : Entry) (r : Refusal) (next : IsNext s p
       served = served_own e past d (suc t) q ∙ n
 
       by : (k : Option ServiceId) → slice_get (service_threads past d) t ≡ k →
-          passes (is_serving c.0) (mapped (state_with (served_call past d (suc t)) (last_of_thread past d (suc t))) k) ≡ true → IsIdle (e ∷ past) d (suc t)
+          passes (is_serving c.0) (option_map (state_with (served_call past d (suc t)) (last_of_thread past d (suc t))) k) ≡ true → IsIdle (e ∷ past) d (suc t)
       by None z h = cc
       by (Some k) z h = (
         k,
-        ap3 (λ (c : Option CallId) (o : Option Entry) (x : Option ServiceId). mapped (state_with c o) x)
+        ap3 (λ (c : Option CallId) (o : Option Entry) (x : Option ServiceId). option_map (state_with c o) x)
             served (last d (suc t) q) (ap (λ (ss : List ServiceId). slice_get ss t) ((same_domains s past e r next refused).threads d) ∙ z)
             ∙ ap Some (idle_stays e k a),
       )

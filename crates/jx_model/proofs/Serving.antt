@@ -14,7 +14,7 @@ use Rattle.jx_base.specs.declared.value.Parcel.{Parcel}
 use Rattle.jx_base.specs.declared.program.System.{System}
 use Rattle.jx_base.specs.declared.states.ThreadState.{ThreadState}
 use Rattle.jx_base.specs.declared.states.ThreadState.TheVariants as thread
-use Rattle.jx_base.specs.Basics.{up_to, is_number, and_then, mapped, passes}
+use Rattle.jx_base.specs.Basics.{up_to, is_number, passes}
 use Rattle.jx_base.specs.Histories.{Past, is_own, nth_entry}
 use Rattle.jx_model.specs.Journal.{is_full}
 use Rattle.jx_model.specs.Domains.{is_live, is_made, end_reason, reason_for, ended_by}
@@ -27,6 +27,7 @@ use Rattle.jx_base.proofs.BasicLaws.{both, eq_of}
 use Rattle.jx_base.proofs.NthEntries.{nth_old, nth_passes, count_grows}
 use Rattle.jx_model.proofs.CallSteps.{answer_made, service_made, taken_made}
 use Rattle.jx_model.proofs.Acting.{acting_cases}
+use Rattle.std.specs.Option.{option_and_then, option_map}
 
 -- an act that Domain Zero may not perform
 pub in_domain : (s : System) (past : Past) (d t : ℕ) (a : Act) → is_halt a ≡ false → zero_may s past a ≡ false → acting_thread s past d a ≡ Some t → ((d == 0) ≡ false) × (domain_thread past d a ≡ Some t)
@@ -85,19 +86,18 @@ of_none None true t x h = (refl, refl, h)
 of_none None false t x h = cc
 of_none (Some r) b t x h = cc
 
-of_then : (o : Option ℕ) (f : ℕ → Option ℕ) (t : ℕ) → and_then o f ≡ Some t → (s : ℕ) × (o ≡ Some s) × (f s ≡ Some t)
-unfolding and_then
+of_then : (o : Option ℕ) (f : ℕ → Option ℕ) (t : ℕ) → option_and_then f o ≡ Some t → (s : ℕ) × (o ≡ Some s) × (f s ≡ Some t)
 of_then None f t h = cc
 of_then (Some s) f t h = (s, refl, h)
 
 pub takes : (s : System) (past : Past) (d t : ℕ) (c : CallId) → acting_thread s past d (act.Take c) ≡ Some t → Takes past d c.0
-unfolding is_halt zero_may domain_thread may_perform is_zero_act is_choice choice_thread taking_thread is_head server_of queue_head queued_calls waiting_calls up_to and_then
+unfolding is_halt zero_may domain_thread may_perform is_zero_act is_choice choice_thread taking_thread is_head server_of queue_head queued_calls waiting_calls up_to
 takes s past d t c h =
     let n = of_none (running_thread past d) (is_live past d) t (taking_thread past d c.0) (in_domain s past d t (act.Take c) refl refl h).1 in
-    let q = chosen (is_head past d c.0) t (and_then (service_of_call past c.0) (idle_thread past d)) n.2 in
+    let q = chosen (is_head past d c.0) t (option_and_then (idle_thread past d) (service_of_call past c.0)) n.2 in
     let k = of_then (service_of_call past c.0) (idle_thread past d) t q.1 in
-    let b = both (is_number (server_of past c.0) d) (is_number (and_then (service_of_call past c.0) (queue_head past)) c.0) q.0 in
-    let head : is_number (queue_head past k.0) c.0 ≡ true = ap (λ (o : Option ℕ). is_number (and_then o (queue_head past)) c.0) (sym k.1) ∙ b.1 in
+    let b = both (is_number (server_of past c.0) d) (is_number (option_and_then (queue_head past) (service_of_call past c.0)) c.0) q.0 in
+    let head : is_number (queue_head past k.0) c.0 ≡ true = ap (λ (o : Option ℕ). is_number (option_and_then (queue_head past) o) c.0) (sym k.1) ∙ b.1 in
     let f = head_of (λ c. is_queued past c && is_number (service_of_call past c) k.0) 1 (calls_made past) c.0
     (ap (λ (xs : List ℕ). slice_get xs 0) (filter_twice (is_queued past) (λ c. is_number (service_of_call past c) k.0) (range_with_len 1 (calls_made past))) ∙ is_it (queue_head past k.0) c.0 head) in
     record {
@@ -106,7 +106,7 @@ takes s past d t c h =
       live = n.1;
       service = k.0;
       of = k.1;
-      owner = ap (λ (o : Option ℕ). is_number (and_then o (owner_of past)) d) (sym k.1) ∙ b.0;
+      owner = ap (λ (o : Option ℕ). is_number (option_and_then (owner_of past) o) d) (sym k.1) ∙ b.0;
       queued = (both (is_queued past c.0) (is_number (service_of_call past c.0) k.0) f.0).0;
     }
 
@@ -231,8 +231,8 @@ unfolding serving_state is_serving
 serving_is s None c h = cc
 serving_is s (Some k) c h = ap (λ (n : ℕ). let x : CallId = record { 0 = n } in Some x) (eq_of k.0 c.0 h)
 
-passes_mapped : (f : ServiceId → ThreadState) (p : ThreadState → Bool) (o : Option ServiceId) → passes p (mapped f o) ≡ true → (s : ServiceId) × (p (f s) ≡ true)
-unfolding passes mapped
+passes_mapped : (f : ServiceId → ThreadState) (p : ThreadState → Bool) (o : Option ServiceId) → passes p (option_map f o) ≡ true → (s : ServiceId) × (p (f s) ≡ true)
+unfolding passes
 passes_mapped f p None h = cc
 passes_mapped f p (Some s) h = (s, h)
 
@@ -266,14 +266,14 @@ returns_it s past d t c p h =
 -- ---- the owner of what a thread serves
 
 owner_kept : (e : Entry) (past : Past) (s d : ℕ) → owner_of past s ≡ Some d → owner_of (e ∷ past) s ≡ Some d
-unfolding owner_of export_of mapped
+unfolding owner_of export_of
 owner_kept e past s d h = by (nth_entry is_export past s) refl h
   where
-    by : (o : Option Entry) → nth_entry is_export past s ≡ o → mapped (λ x. x.domain.0) o ≡ Some d → mapped (λ x. x.domain.0) (nth_entry is_export (e ∷ past) s) ≡ Some d
+    by : (o : Option Entry) → nth_entry is_export past s ≡ o → option_map (λ x. x.domain.0) o ≡ Some d → option_map (λ x. x.domain.0) (nth_entry is_export (e ∷ past) s) ≡ Some d
     by None q h = cc
     by (Some x) q h =
         let n = nth_passes is_export past s x q in
-        ap (mapped (λ x. x.domain.0)) (nth_old is_export e past s (λ z. omega (arith, z, n.2)) ∙ q) ∙ h
+        ap (option_map (λ x. x.domain.0)) (nth_old is_export e past s (λ z. omega (arith, z, n.2)) ∙ q) ∙ h
 
 abbrev pub Owned : Past → ℕ → ℕ → Type 0
 Owned past d c = (s : ℕ) × (service_of_call past c ≡ Some s) × (owner_of past s ≡ Some d)
@@ -364,10 +364,10 @@ not_ended (Some x) d h = by x.0 x.1 h
         turned false q h = grind (arith, nat_tests)
 
 step_none : (past : Past) (e : Entry) (d c : ℕ) → Owned past d c → reason_for (ended_by e) d ≡ None → answered_by_act c e.act e.reply ≡ None → answered_by past e c ≡ None
-unfolding answered_by and_then ends_server server_of
+unfolding answered_by ends_server server_of
 step_none past e d c o r a =
-    ap (λ (x : Option Answer). elim x as (λ _. Option Answer) [ Some a ↦ Some a | None ↦ if ends_domain (ended_by e) (and_then (service_of_call past c) (owner_of past)) then Some Answer.Ended else None ]) a
-    ∙ ap (λ (b : Bool). if b then Some Answer.Ended else None) (ap (ends_domain (ended_by e)) (ap (λ (x : Option ℕ). and_then x (owner_of past)) o.1 ∙ o.2) ∙ not_ended (ended_by e) d r)
+    ap (λ (x : Option Answer). elim x as (λ _. Option Answer) [ Some a ↦ Some a | None ↦ if ends_domain (ended_by e) (option_and_then (owner_of past) (service_of_call past c)) then Some Answer.Ended else None ]) a
+    ∙ ap (λ (b : Bool). if b then Some Answer.Ended else None) (ap (ends_domain (ended_by e)) (ap (λ (x : Option ℕ). option_and_then (owner_of past) x) o.1 ∙ o.2) ∙ not_ended (ended_by e) d r)
 
 takes_none : (c : CallId) (r : Reply) → answered_by_act c.0 (act.Take c) r ≡ None
 unfolding answered_by_act

@@ -14,7 +14,7 @@ use Rattle.jx_base.specs.declared.value.Parcel.{Parcel}
 use Rattle.jx_base.specs.declared.value.Word.{Word}
 use Rattle.jx_base.specs.declared.value.Word.TheVariants as word
 use Rattle.jx_base.specs.declared.program.System.{System}
-use Rattle.jx_base.specs.Basics.{is_number, mapped}
+use Rattle.jx_base.specs.Basics.{is_number}
 use Rattle.program_model.specs.Limits.{text_limit, name_limit, thread_limit, node_limit, parcel_limit}
 use Rattle.program_model.specs.ParcelParts.{parcel_cells, parcel_words}
 use Rattle.jx_base.specs.Histories.{Past}
@@ -23,6 +23,7 @@ use Rattle.program_model.specs.Lookup.{class_at, selector_at, template_at}
 use Rattle.program_model.specs.Ranges.{IsInt, IsText, IsNameUnit, IsServiceName, IsWidth, has_bits, is_int, is_text, is_name_unit, is_service_name, is_width}
 use Rattle.jx_model.specs.WellMade.{IsWordIn, IsClass, IsParcelIn, IsWellMadeTest, is_word_in, is_class, is_parcel_in, is_exception, is_end_reason, is_well_made}
 use Rattle.jx_base.proofs.BasicLaws.{eq_of, same_number}
+use Rattle.std.specs.Option.{option_map}
 
 below : (a b : ℕ) → Decides (nat_lt a b) (a < b)
 below a b = Decides-ltb a b
@@ -93,8 +94,8 @@ widths w =
     back (inr (inl q)) = inl (inr q)
     back (inr (inr r)) = inr r
 
-portals : (o : Option ClassId) (c : ClassId) → Decides (is_number (mapped (λ x. x.0) o) c.0) (o ≡ Some c)
-unfolding is_number mapped
+portals : (o : Option ClassId) (c : ClassId) → Decides (is_number (option_map (λ x. x.0) o) c.0) (o ≡ Some c)
+unfolding is_number
 portals None c = (λ h. cc, λ h. cc)
 portals (Some k) c = (λ h. ap (λ (n : ℕ). let x : ClassId = record { 0 = n } in Some x) (eq_of k.0 c.0 h), λ h. let q : k ≡ c = cc in ap (λ (x : ClassId). k.0 == x.0) (sym q) ∙ same_number k.0)
 

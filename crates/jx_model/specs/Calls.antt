@@ -15,10 +15,11 @@ use Rattle.jx_base.specs.declared.states.CallState.TheVariants as call
 use Rattle.jx_base.specs.declared.states.AnswerKind.{AnswerKind}
 use Rattle.jx_base.specs.declared.states.AnswerKind.TheVariants as kind
 use Rattle.jx_base.specs.declared.value.Parcel.{Parcel}
-use Rattle.jx_base.specs.Basics.{and_then, mapped, passes, up_to, is_number}
+use Rattle.jx_base.specs.Basics.{passes, up_to, is_number}
 use Rattle.jx_base.specs.Histories.{Past, nth_entry, count_where}
 use Rattle.jx_model.specs.Domains.{is_live, ended_by}
 use Rattle.jx_model.specs.Portals.{owner_of}
+use Rattle.std.specs.Option.{option_and_then, option_map}
 
 -- ---- what was asked
 
@@ -52,19 +53,19 @@ call_entry past c = nth_entry is_call past c
 
 -- what the call asked
 unfoldable pub asked_of : Past → ℕ → Option Asked
-asked_of past c = and_then (call_entry past c) (λ e. asked_by e.act)
+asked_of past c = option_and_then (λ e. asked_by e.act) (call_entry past c)
 
 -- the service of the call
 unfoldable pub service_of_call : Past → ℕ → Option ℕ
-service_of_call past c = mapped (λ a. a.service.0) (asked_of past c)
+service_of_call past c = option_map (λ a. a.service.0) (asked_of past c)
 
 -- the domain that owns the call's service
 unfoldable pub server_of : Past → ℕ → Option ℕ
-server_of past c = and_then (service_of_call past c) (owner_of past)
+server_of past c = option_and_then (owner_of past) (service_of_call past c)
 
 -- the domain that made the call
 unfoldable pub caller_of : Past → ℕ → Option ℕ
-caller_of past c = mapped (λ e. e.domain.0) (call_entry past c)
+caller_of past c = option_map (λ e. e.domain.0) (call_entry past c)
 
 -- whether the caller is live
 unfoldable pub has_live_caller : Past → ℕ → Bool

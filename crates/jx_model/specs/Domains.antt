@@ -10,8 +10,9 @@ use Rattle.jx_base.specs.declared.act.Reason.{Reason}
 use Rattle.jx_base.specs.declared.act.Reason.TheVariants as reason
 use Rattle.jx_base.specs.declared.act.Entry.{Entry}
 use Rattle.jx_base.specs.declared.program.System.{System}
-use Rattle.jx_base.specs.Basics.{and_then, mapped, not_below_zero}
+use Rattle.jx_base.specs.Basics.{not_below_zero}
 use Rattle.jx_base.specs.Histories.{Past, is_done, nth_entry, count_where}
+use Rattle.std.specs.Option.{option_and_then, option_map}
 
 -- ---- which domains were made
 
@@ -49,11 +50,11 @@ named_template s _ = None
 
 -- the template of domain d
 unfoldable pub template_of : System → Past → ℕ → Option ℕ
-template_of s past d = and_then (birth_of past d) (λ e. named_template s e.act)
+template_of s past d = option_and_then (λ e. named_template s e.act) (birth_of past d)
 
 -- the domain that made d
 unfoldable pub creator_of : Past → ℕ → Option ℕ
-creator_of past d = mapped (λ e. e.domain.0) (birth_of past d)
+creator_of past d = option_map (λ e. e.domain.0) (birth_of past d)
 
 -- the granule in a reply of a domain or an allocation
 unfoldable pub reply_granule : Reply → ℕ
@@ -63,7 +64,7 @@ reply_granule _ = 0
 
 -- the first granule of the heap of d
 unfoldable pub heap_place_of : Past → ℕ → Option ℕ
-heap_place_of past d = mapped (λ e. reply_granule e.reply) (birth_of past d)
+heap_place_of past d = option_map (λ e. reply_granule e.reply) (birth_of past d)
 
 -- ---- which of them live
 

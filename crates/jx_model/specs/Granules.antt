@@ -2,16 +2,17 @@
 use Rattle.std.specs.Prelude.{ℕ, zero, suc, ◌+◌, ◌-◌, Bool, true, false, ◌&&◌, not, List, [], ◌∷◌, ◌++◌, Option, Some, None, nat_lt, nat_le, if◌then◌else◌, filter_map, slice_get}
 use Rattle.std.specs.List.{list_any, list_all, range_with_len}
 use Rattle.jx_base.specs.declared.program.System.{System}
-use Rattle.jx_base.specs.Basics.{mapped, up_to, parts_of, or_zero}
+use Rattle.jx_base.specs.Basics.{up_to, parts_of}
 use Rattle.program_model.specs.Limits.{granule_limit, granule_bytes, granule_cells}
 use Rattle.jx_base.specs.Histories.{Past}
 use Rattle.jx_model.specs.Domains.{is_live, domains_made, template_of, heap_place_of, reply_granule}
 use Rattle.jx_model.specs.MemoryObjects.{extents_made, allocation_of, allocated_bytes}
 use Rattle.jx_model.specs.Holding.{is_extent_in_use}
+use Rattle.std.specs.Option.{option_map, unwrap_or}
 
 -- the heap cells of a template
 unfoldable pub heap_of_template : System → ℕ → ℕ
-heap_of_template s t = or_zero (mapped (λ x. x.heap) (slice_get s.plan.templates t))
+heap_of_template s t = unwrap_or (option_map (λ x. x.heap) (slice_get s.plan.templates t)) 0
 
 -- the granules of the heap of a template
 unfoldable pub heap_granules : System → ℕ → ℕ
@@ -27,7 +28,7 @@ Run = ℕ × ℕ
 
 -- the granules of a domain's heap
 unfoldable pub heap_run : System → Past → ℕ → Run
-heap_run s past d = (or_zero (heap_place_of past d), or_zero (mapped (heap_granules s) (template_of s past d)))
+heap_run s past d = (unwrap_or (heap_place_of past d) 0, unwrap_or (option_map (heap_granules s) (template_of s past d)) 0)
 
 -- the granules of an extent
 unfoldable pub extent_run : Past → ℕ → Run

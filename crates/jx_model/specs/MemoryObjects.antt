@@ -5,8 +5,9 @@ use Rattle.jx_base.specs.declared.act.Act.TheVariants as act
 use Rattle.jx_base.specs.declared.act.Reply.{Reply}
 use Rattle.jx_base.specs.declared.act.Reply.TheVariants as reply
 use Rattle.jx_base.specs.declared.act.Entry.{Entry}
-use Rattle.jx_base.specs.Basics.{mapped, passes, contains_number, numbered, not_below_zero}
+use Rattle.jx_base.specs.Basics.{passes, contains_number, numbered, not_below_zero}
 use Rattle.jx_base.specs.Histories.{Past, is_done, nth_entry, count_where}
+use Rattle.std.specs.Option.{option_map}
 
 -- ---- extents
 
@@ -78,7 +79,7 @@ object_part past m = numbered (objects_of past) m
 
 -- the object that it was derived from, or 0
 unfoldable pub object_parent : Past → ℕ → Option ℕ
-object_parent past m = mapped (λ o. o.parent) (object_part past m)
+object_parent past m = option_map (λ o. o.parent) (object_part past m)
 
 -- ---- which are valid
 

@@ -7,12 +7,13 @@ use Rattle.jx_base.specs.declared.act.Entry.{Entry}
 use Rattle.jx_base.specs.declared.states.ThreadState.{ThreadState}
 use Rattle.jx_base.specs.declared.states.ThreadState.TheVariants as thread
 use Rattle.jx_base.specs.declared.program.System.{System}
-use Rattle.jx_base.specs.Basics.{and_then, mapped, passes, is_number, up_to, or_else, first_some}
+use Rattle.jx_base.specs.Basics.{passes, is_number, up_to, first_some}
 use Rattle.jx_base.specs.Histories.{Past, count_where}
 use Rattle.jx_model.specs.Journal.{is_full}
 use Rattle.jx_model.specs.Domains.{domains_made, is_live}
 use Rattle.jx_model.specs.Threads.{service_threads, thread_state, thread_where, threads_of, running_thread}
 use Rattle.jx_model.specs.Calls.{queue_head, is_resumable, service_of_call, server_of}
+use Rattle.std.specs.Option.{option_and_then, option_map, option_or}
 
 -- ---- kinds of acts
 
@@ -91,7 +92,7 @@ is_yielded _ = false
 
 -- whether the call is the first in the queue of a service of d
 unfoldable pub is_head : Past → ℕ → ℕ → Bool
-is_head past d c = is_number (server_of past c) d && is_number (and_then (service_of_call past c) (queue_head past)) c
+is_head past d c = is_number (server_of past c) d && is_number (option_and_then (queue_head past) (service_of_call past c)) c
 
 -- the lowest idle thread of the service
 unfoldable pub idle_thread : Past → ℕ → ℕ → Option ℕ
@@ -99,7 +100,7 @@ idle_thread past d s = thread_where past d (is_idle_for s)
 
 -- the thread that takes the call, where it is the first of its queue
 unfoldable pub taking_thread : Past → ℕ → ℕ → Option ℕ
-taking_thread past d c = if is_head past d c then and_then (service_of_call past c) (idle_thread past d) else None
+taking_thread past d c = if is_head past d c then option_and_then (idle_thread past d) (service_of_call past c) else None
 
 -- the thread that goes on after the call
 unfoldable pub resuming_thread : Past → ℕ → ℕ → Option ℕ
@@ -125,21 +126,21 @@ resume_in past _ = None
 
 -- the resume of a thread
 unfoldable pub resume_at : Past → ℕ → ℕ → Option Act
-resume_at past d t = and_then (thread_state past d t) (resume_in past)
+resume_at past d t = option_and_then (resume_in past) (thread_state past d t)
 
 -- the take of a service's first call, where a thread of it is idle
 unfoldable pub take_at : Past → ℕ → ℕ → Option Act
-take_at past d s = if is_some (idle_thread past d s) then mapped (λ c. act.Take (record { 0 = c })) (queue_head past s) else None
+take_at past d s = if is_some (idle_thread past d s) then option_map (λ c. act.Take (record { 0 = c })) (queue_head past s) else None
 
 -- the go of a thread
 unfoldable pub go_at : Past → ℕ → ℕ → Option Act
-go_at past d t = mapped (λ k. act.Go (record { 0 = k })) (going_thread past d t)
+go_at past d t = option_map (λ k. act.Go (record { 0 = k })) (going_thread past d t)
 
 -- the first of a domain's choices: resumes by thread, then takes by service, then goes by thread
 unfoldable pub first_of_choices : Past → ℕ → Option Act
 first_of_choices past d =
-    or_else (first_some (resume_at past d) (threads_of past d))
-    (or_else (first_some (λ s. take_at past d s.0) (service_threads past d)) (first_some (go_at past d) (threads_of past d)))
+    option_or (first_some (resume_at past d) (threads_of past d))
+    (option_or (first_some (λ s. take_at past d s.0) (service_threads past d)) (first_some (go_at past d) (threads_of past d)))
 
 -- the first choice of a live domain in which no thread runs
 unfoldable pub first_choice : Past → ℕ → Option Act

@@ -9,10 +9,11 @@ use Rattle.jx_base.specs.declared.act.Reply.TheVariants as reply
 use Rattle.jx_base.specs.declared.act.Entry.{Entry}
 use Rattle.jx_base.specs.declared.ids.ClassId.{ClassId}
 use Rattle.jx_base.specs.declared.value.Parcel.{Parcel}
-use Rattle.jx_base.specs.Basics.{and_then, mapped, passes, contains_number, is_number}
+use Rattle.jx_base.specs.Basics.{passes, contains_number, is_number}
 use Rattle.program_model.specs.ParcelParts.{parcel_portals}
 use Rattle.jx_base.specs.Histories.{Past, is_done, is_own, nth_entry, count_where}
 use Rattle.jx_model.specs.Domains.{is_live}
+use Rattle.std.specs.Option.{option_and_then, option_map}
 
 -- ---- services
 
@@ -35,11 +36,11 @@ export_of past s = nth_entry is_export past s
 
 -- the domain that exported the service
 unfoldable pub owner_of : Past → ℕ → Option ℕ
-owner_of past s = mapped (λ e. e.domain.0) (export_of past s)
+owner_of past s = option_map (λ e. e.domain.0) (export_of past s)
 
 -- the interface that the service was exported with
 unfoldable pub interface_of : Past → ℕ → Option ClassId
-interface_of past s = and_then (export_of past s) (λ e. exported_interface e.act e.reply)
+interface_of past s = option_and_then (λ e. exported_interface e.act e.reply) (export_of past s)
 
 -- whether the owner of the service is live
 unfoldable pub has_live_owner : Past → ℕ → Bool
@@ -87,7 +88,7 @@ last_bound (e ∷ past) name = elim (bound_by_act name e.act e.reply) [ Some s �
 
 -- the service that the name is bound to: that of the last bind, while its owner is live
 unfoldable pub bound_service : Past → List ℕ → Option ℕ
-bound_service past name = and_then (last_bound past name) (λ s. if has_live_owner past s then Some s else None)
+bound_service past name = option_and_then (λ s. if has_live_owner past s then Some s else None) (last_bound past name)
 
 -- what a computed row opens
 unfoldable pub opened_portals : Unit {0}

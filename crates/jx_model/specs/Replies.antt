@@ -14,7 +14,7 @@ use Rattle.jx_base.specs.declared.ids.ObjectId.{ObjectId}
 use Rattle.jx_base.specs.declared.ids.ServiceId.{ServiceId}
 use Rattle.jx_base.specs.declared.value.Parcel.{Parcel}
 use Rattle.jx_base.specs.declared.program.System.{System}
-use Rattle.jx_base.specs.Basics.{and_then, passes, is_number, not_below_zero}
+use Rattle.jx_base.specs.Basics.{passes, is_number, not_below_zero}
 use Rattle.program_model.specs.Limits.{domain_limit, service_limit, object_limit, allocation_limit}
 use Rattle.program_model.specs.ParcelParts.{parcel_portals, parcel_objects}
 use Rattle.jx_base.specs.Histories.{Past}
@@ -27,6 +27,7 @@ use Rattle.jx_model.specs.Granules.{first_fit, heap_granules, extent_granules}
 use Rattle.jx_model.specs.Bytes.{number_at}
 use Rattle.program_model.specs.Lookup.{has_method}
 use Rattle.program_model.specs.Parcels.{fits_domain}
+use Rattle.std.specs.Option.{option_and_then}
 
 -- ---- refusals
 
@@ -102,7 +103,7 @@ holds_all past d p = list_all (holds_portal past d) (parcel_portals p) && list_a
 
 -- whether that domain can have the parcel
 unfoldable pub fits_domain_of : System → Past → Option ℕ → Parcel → Bool
-fits_domain_of s past d p = passes (λ t. fits_domain s t p) (and_then d (template_of s past))
+fits_domain_of s past d p = passes (λ t. fits_domain s t p) (option_and_then (template_of s past) d)
 
 -- whether the service's interface or one above it has the method
 unfoldable pub has_service_method : System → Past → ℕ → ℕ → Bool
@@ -213,7 +214,7 @@ reply_to s past d (act.Call service method parcel) = called s past d service met
 reply_to s past d (act.Take c) = job_of (asked_of past c.0)
 reply_to s past d (act.Return c parcel) = sent_back s past d c.0 parcel
 reply_to s past d (act.Throw c parcel) = sent_back s past d c.0 parcel
-reply_to s past d (act.Resume c) = or_done (and_then (answer_of past c.0) answer_reply)
+reply_to s past d (act.Resume c) = or_done (option_and_then answer_reply (answer_of past c.0))
 reply_to s past d (act.Alloc n) = allocated s past n
 reply_to s past d (act.Size m) = with_object past d m (λ o. reply.Number (pos o.size))
 reply_to s past d (act.Get m at width) = with_object past d m (number_in past at width)

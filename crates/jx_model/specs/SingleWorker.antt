@@ -5,7 +5,7 @@ use Rattle.jx_base.specs.declared.act.Act.TheVariants as act
 use Rattle.jx_base.specs.declared.act.Entry.{Entry}
 use Rattle.jx_base.specs.declared.act.History.{History}
 use Rattle.jx_base.specs.declared.program.System.{System}
-use Rattle.jx_base.specs.Basics.{and_then, or_zero, or_else, up_to}
+use Rattle.jx_base.specs.Basics.{up_to}
 use Rattle.program_model.specs.Limits.{journal_limit}
 use Rattle.jx_base.specs.Histories.{Past, past_of, own_entries}
 use Rattle.jx_model.specs.Journal.{is_full}
@@ -14,6 +14,7 @@ use Rattle.jx_model.specs.Permits.{acting_thread, is_over, next_boot, can_act, f
 use Rattle.jx_model.specs.Replies.{reply_to}
 use Rattle.jx_model.specs.Legal.{IsComplete}
 use Rattle.machine_model.specs.Machine.{NextAct, Does, Idle, next_act}
+use Rattle.std.specs.Option.{option_and_then, option_or, unwrap_or}
 
 -- ---- what the worker picks
 
@@ -44,7 +45,7 @@ next_above past d = find (λ k. nat_lt d k && can_act past k) (up_to (domains_ma
 -- the domain whose turn it is: that of the last entry, or the next above it that can act, or the least that can
 unfoldable pub next_domain : Past → Option ℕ
 next_domain past =
-    if goes_on past then Some (last_domain past) else or_else (next_above past (last_domain past)) (first_alive past)
+    if goes_on past then Some (last_domain past) else option_or (next_above past (last_domain past)) (first_alive past)
 
 -- the act of the code, where it performs one
 unfoldable pub performed : NextAct → Option Act
@@ -53,11 +54,11 @@ performed Idle = None
 
 -- the act that the domain's code performs next
 unfoldable pub code_act : System → Past → ℕ → Option Act
-code_act s past d = and_then (template_of s past d) (λ t. performed (next_act s t (own_entries past d)))
+code_act s past d = option_and_then (λ t. performed (next_act s t (own_entries past d))) (template_of s past d)
 
 -- the act of the domain whose turn it is: that of its code, or its first choice
 unfoldable pub act_of_turn : System → Past → ℕ → Option Act
-act_of_turn s past d = or_else (code_act s past d) (first_choice past d)
+act_of_turn s past d = option_or (code_act s past d) (first_choice past d)
 
 -- the act of a domain's turn, or quiet where there is none
 unfoldable pub turn_of : System → Past → Option ℕ → Pick
@@ -97,7 +98,7 @@ unfoldable pub entry_for : System → Past → ℕ → Act → Entry
 entry_for s past d a =
     record {
       domain = record { 0 = d };
-      thread = record { 0 = or_zero (acting_thread s past d a) };
+      thread = record { 0 = unwrap_or (acting_thread s past d a) 0 };
       act = a;
       reply = reply_to s past d a;
     }

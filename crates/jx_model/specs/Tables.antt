@@ -9,7 +9,7 @@ use Rattle.jx_base.specs.declared.states.DomainState.{DomainState}
 use Rattle.jx_base.specs.declared.states.ThreadState.{ThreadState}
 use Rattle.jx_base.specs.declared.states.ThreadState.TheVariants as thread
 use Rattle.jx_base.specs.declared.program.System.{System}
-use Rattle.jx_base.specs.Basics.{or_zero, mapped, up_to}
+use Rattle.jx_base.specs.Basics.{up_to}
 use Rattle.program_model.specs.Limits.{granule_limit}
 use Rattle.jx_base.specs.Histories.{Past}
 use Rattle.jx_model.specs.Domains.{domains_made, template_of, creator_of, heap_place_of, end_reason}
@@ -21,6 +21,7 @@ use Rattle.jx_model.specs.Holding.{holders, riding_count, carried, is_extent_in_
 use Rattle.jx_model.specs.Granules.{Run, extent_run, is_used_granule}
 use Rattle.jx_model.specs.Bytes.{byte_at}
 use Rattle.jx_model.specs.Legal.{IsAdmittedPast}
+use Rattle.std.specs.Option.{option_map, unwrap_or}
 
 -- ---- domains and threads
 
@@ -28,9 +29,9 @@ use Rattle.jx_model.specs.Legal.{IsAdmittedPast}
 unfoldable pub domain_row : System → Past → ℕ → DomainState
 domain_row s past d =
     record {
-      template = or_zero (template_of s past d);
-      creator = record { 0 = or_zero (creator_of past d) };
-      at = or_zero (heap_place_of past d);
+      template = unwrap_or (template_of s past d) 0;
+      creator = record { 0 = unwrap_or (creator_of past d) 0 };
+      at = unwrap_or (heap_place_of past d) 0;
       ended = end_reason past d;
     }
 
@@ -68,7 +69,7 @@ pub record ServiceRow : Type 0 where
 unfoldable pub service_row : Past → ℕ → ServiceRow
 service_row past k =
     record {
-      owner = or_zero (owner_of past k);
+      owner = unwrap_or (owner_of past k) 0;
       interface = interface_of past k;
       holders = filter (λ d. holds_portal past d k) (up_to (domains_made past));
     }
@@ -94,15 +95,15 @@ pub record CallRow : Type 0 where
 
 -- the thread that made the call
 unfoldable pub calling_thread : Past → ℕ → Option ℕ
-calling_thread past c = mapped (λ e. e.thread.0) (call_entry past c)
+calling_thread past c = option_map (λ e. e.thread.0) (call_entry past c)
 
 -- a call
 unfoldable pub call_row : Past → ℕ → CallRow
 call_row past c =
     record {
-      caller = or_zero (caller_of past c);
-      thread = or_zero (calling_thread past c);
-      service = or_zero (service_of_call past c);
+      caller = unwrap_or (caller_of past c) 0;
+      thread = unwrap_or (calling_thread past c) 0;
+      service = unwrap_or (service_of_call past c) 0;
       state = call_state past c;
       carried = carried past c;
     }
@@ -131,7 +132,7 @@ object_rows past = map (object_row past) (up_to (objects_made past))
 
 -- the bytes that an extent was made with
 unfoldable pub extent_size : Past → ℕ → ℕ
-extent_size past x = or_zero (mapped (λ e. allocated_bytes e.act) (allocation_of past x))
+extent_size past x = unwrap_or (option_map (λ e. allocated_bytes e.act) (allocation_of past x)) 0
 
 -- the bytes of an extent
 unfoldable pub extent_bytes : Past → ℕ → List ℕ

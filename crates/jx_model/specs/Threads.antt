@@ -10,9 +10,10 @@ use Rattle.jx_base.specs.declared.ids.ServiceId.{ServiceId}
 use Rattle.jx_base.specs.declared.ids.CallId.{CallId}
 use Rattle.jx_base.specs.declared.states.ThreadState.{ThreadState}
 use Rattle.jx_base.specs.declared.states.ThreadState.TheVariants as thread
-use Rattle.jx_base.specs.Basics.{mapped, passes}
+use Rattle.jx_base.specs.Basics.{passes}
 use Rattle.jx_base.specs.Histories.{Past, is_own}
 use Rattle.jx_model.specs.Domains.{is_live}
+use Rattle.std.specs.Option.{option_map}
 
 -- the services of the threads that an export adds
 unfoldable pub new_threads : Act → Reply → List ServiceId
@@ -74,7 +75,7 @@ last_of_thread past d t = find (is_of_thread d t) past
 unfoldable pub thread_state : Past → ℕ → ℕ → Option ThreadState
 thread_state past d zero = Some (state_by_last thread.Running (last_of_thread past d 0))
 thread_state past d (suc t) =
-    mapped
+    option_map
     (λ s. state_by_last (serving_state s (served_call past d (suc t))) (last_of_thread past d (suc t)))
     (slice_get (service_threads past d) t)
 

@@ -12,13 +12,14 @@ use Rattle.jx_base.specs.declared.value.Parcel.{Parcel}
 use Rattle.jx_base.specs.declared.value.Word.{Word}
 use Rattle.jx_base.specs.declared.value.Word.TheVariants as word
 use Rattle.jx_base.specs.declared.program.System.{System}
-use Rattle.jx_base.specs.Basics.{is_number, mapped}
+use Rattle.jx_base.specs.Basics.{is_number}
 use Rattle.program_model.specs.Limits.{text_limit, name_limit, thread_limit, node_limit, parcel_limit}
 use Rattle.program_model.specs.ParcelParts.{parcel_cells, parcel_words}
 use Rattle.jx_base.specs.Histories.{Past}
 use Rattle.jx_model.specs.Portals.{interface_of}
 use Rattle.program_model.specs.Lookup.{class_at, selector_at, template_at}
 use Rattle.program_model.specs.Ranges.{IsInt, IsText, IsServiceName, IsWidth, has_bits, is_int, is_text, is_service_name, is_width}
+use Rattle.std.specs.Option.{option_map}
 
 -- a word within its range; a portal names a service that was exported, with its interface
 abbrev pub IsWordIn : Past → ℕ → Word → Type 0
@@ -70,7 +71,7 @@ unfoldable pub is_word_in : Past → ℕ → Word → Bool
 is_word_in past nodes (word.Int n) = has_bits 31 n
 is_word_in past nodes (word.Long n) = has_bits 63 n
 is_word_in past nodes (word.Node k) = nat_lt k nodes
-is_word_in past nodes (word.Portal k c) = is_number (mapped (λ x. x.0) (interface_of past k.0)) c.0
+is_word_in past nodes (word.Portal k c) = is_number (option_map (λ x. x.0) (interface_of past k.0)) c.0
 is_word_in past nodes _ = true
 
 -- whether the system has the class

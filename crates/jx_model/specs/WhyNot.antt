@@ -6,13 +6,13 @@ use Rattle.jx_base.specs.declared.states.Why.{Why}
 use Rattle.jx_base.specs.declared.states.Why.TheVariants as why
 use Rattle.jx_base.specs.declared.ids.CallId.{CallId}
 use Rattle.jx_base.specs.declared.program.System.{System}
-use Rattle.jx_base.specs.Basics.{and_then, mapped, or_zero}
 use Rattle.jx_base.specs.Histories.{Past}
 use Rattle.jx_model.specs.Journal.{is_full, words_of}
 use Rattle.jx_model.specs.Domains.{is_live}
 use Rattle.jx_model.specs.Threads.{running_thread}
 use Rattle.jx_model.specs.Calls.{queue_head, service_of_call}
 use Rattle.jx_model.specs.Permits.{acting_thread, is_over, is_halt, is_zero_act, is_choice, next_boot, first_alive, is_head, taking_thread, resuming_thread, going_thread, may_perform}
+use Rattle.std.specs.Option.{option_and_then, option_map, unwrap_or}
 
 -- the reason, where the test passes
 unfoldable pub why_if : Bool → Why → Option Why
@@ -20,12 +20,12 @@ why_if b w = if b then Some w else None
 
 -- the first call in the queue of the call's service, whosever service that is
 unfoldable pub head_of_its_queue : Past → ℕ → Option CallId
-head_of_its_queue past c = mapped (λ k. record { 0 = k }) (and_then (service_of_call past c) (queue_head past))
+head_of_its_queue past c = option_map (λ k. record { 0 = k }) (option_and_then (queue_head past) (service_of_call past c))
 
 -- why the call can't be taken
 unfoldable pub why_not_take : Past → ℕ → ℕ → Option Why
 why_not_take past d c =
-    if is_head past d c then why_if (is_none (taking_thread past d c)) (why.NoIdle (record { 0 = or_zero (service_of_call past c) }))
+    if is_head past d c then why_if (is_none (taking_thread past d c)) (why.NoIdle (record { 0 = unwrap_or (service_of_call past c) 0 }))
     else Some (why.NotHead (head_of_its_queue past c))
 
 -- why a domain without a running thread can't perform the act
@@ -55,7 +55,7 @@ unfoldable pub why_not_zero : System → Past → Act → Option Why
 why_not_zero s past (act.Create t) =
     elim (next_boot s past) [ None ↦ Some why.Extra | Some b ↦ why_if (not (b == t)) (why.Boot b) ]
 why_not_zero s past act.Quiet =
-    boot_or (next_boot s past) (mapped (λ d. why.Alive (record { 0 = d })) (first_alive past))
+    boot_or (next_boot s past) (option_map (λ d. why.Alive (record { 0 = d })) (first_alive past))
 why_not_zero s past act.Halt =
     if is_full s past then None else boot_or (next_boot s past) (Some (why.NotFull (words_of past)))
 why_not_zero s past _ = Some why.WrongActor

@@ -24,7 +24,6 @@ use Rattle.link_model.specs.LinkFaults.{IsLinked, has_tag_for, dimensions_of}
 use Rattle.link_model.specs.Linking.{Source, outline, array_names, named_arrays, array_class_named, class_of_file, linked_method, meaning_of}
 use Rattle.program_model.specs.Lookup.{class_at, class_named, constant_at, method_at, type_of_name, type_of_class}
 use Rattle.program_model.specs.Types.{element_type}
-use Rattle.jx_base.specs.Basics.{mapped}
 use Rattle.jx_base.proofs.BasicLaws.{both, eq_of}
 use Rattle.link_laws.specs.Arrays.{IsTypeIn, IsElementOf, HasArraysOf, ArraysHold}
 use Rattle.link_laws.specs.Linked.{IsLinkedFrom}
@@ -39,6 +38,7 @@ use Rattle.link_laws.proofs.Templates.{file_names, file_listed}
 use Rattle.link_laws.proofs.Uses.{mapped_some}
 use Rattle.link_laws.proofs.Whole.{is_there, methods_hold}
 use Rattle.link_laws.proofs.Dimensions.{method_said}
+use Rattle.std.specs.Option.{option_map}
 
 -- ---- small facts
 
@@ -200,11 +200,11 @@ module _ (plan : Plan) (files : List ClassFile) (s : System) (from : IsLinkedFro
   -- an instruction that makes arrays of a class
   references_there : (m : ℕ) (x : Method) (i : Instr) (c : ClassId) (k : Class) → method_at s m ≡ Some x → Contains x.instrs i → row_at i.opcode ≡ row.NewReferenceArray
       → constant_at s x.class.0 (index_operand i 0) ≡ Some (resolved.Class c) → class_at s c.0 ≡ Some k → HasArraysOf s (type_of_class k)
-  unfolding class_mentioned type_of_class use_by used_by mapped uses_of_code class_at_index
+  unfolding class_mentioned type_of_class use_by used_by uses_of_code class_at_index
   references_there m x i c k e h q means there =
       let w = written_at m x i e (contained x.instrs i h) in
       let u : Used = record { use_of = AsClass; index = index_operand i 0 } in
-      let used : used_by i ≡ Some u = ap (λ r. mapped (λ (v : Use). record { use_of = v; index = index_operand i 0 }) (use_by r i)) q in
+      let used : used_by i ≡ Some u = ap (λ r. option_map (λ (v : Use). record { use_of = v; index = index_operand i 0 }) (use_by r i)) q in
       let among = among_front (filter_map used_by (instructions_of w.code.code)) (catch_uses w.code) u (among_given used_by (instructions_of w.code.code) i u w.written used) in
       let told = use_told plan files s from w.place w.file w.member w.code u w.there w.listed w.coded among (instr_arrays plan files s from w.file w.code i u w.written used) in
       let l = file_listed plan files s linked w.place w.file w.there in

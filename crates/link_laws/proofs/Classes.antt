@@ -8,7 +8,6 @@ use Rattle.jx_base.specs.declared.class_file.ClassFile.{ClassFile}
 use Rattle.jx_base.specs.declared.program.Class.{Class}
 use Rattle.jx_base.specs.declared.program.Plan.{Plan}
 use Rattle.jx_base.specs.declared.program.System.{System}
-use Rattle.jx_base.specs.Basics.{mapped}
 use Rattle.program_model.specs.BuiltIn.{built_in_table, built_in_count, array_class, class_below, built_in_class, opened_built_in}
 use Rattle.link_model.specs.ClassFiles.{this_name}
 use Rattle.link_model.specs.Linking.{outline, linked_classes, classes_from, class_of_file, array_class_named, array_names, named_arrays, with_meanings, meanings_of, linked_system}
@@ -23,6 +22,7 @@ use Rattle.jx_base.proofs.BasicLaws.{both, ap2, eq_of}
 use Rattle.std.proofs.Common.{ltb-true}
 use Rattle.std.proofs.lemmas.Option.{get_or_from_slice_get}
 use Rattle.link_laws.proofs.Templates.{file_names}
+use Rattle.std.specs.Option.{option_map}
 
 -- the name of a class
 abbrev pub name_of : Class → List ℕ
@@ -71,7 +71,7 @@ names_from plan files c (f ∷ fs) = ap (λ xs. this_name f ∷ xs) (names_from 
 
 -- what constants mean leaves the names
 pub names_meant : (s : System) (files : List ClassFile) (c : ℕ) (ks : List Class) → map name_of (with_meanings s files c ks) ≡ map name_of ks
-unfolding with_meanings mapped
+unfolding with_meanings
 names_meant s files c [] = refl
 names_meant s files c (k ∷ ks) = by (is_built_in c) (slice_get files (c - built_in_count)) (names_meant s files (c + 1) ks)
   where
@@ -79,7 +79,7 @@ names_meant s files c (k ∷ ks) = by (is_built_in c) (slice_get files (c - buil
     of_file f = record k { constants = meanings_of s f }
 
     by : (b : Bool) (o : Option ClassFile) → map name_of (with_meanings s files (c + 1) ks) ≡ map name_of ks
-        → name_of (if b then k else unwrap_or (mapped of_file o) k) ∷ map name_of (with_meanings s files (c + 1) ks) ≡ name_of k ∷ map name_of ks
+        → name_of (if b then k else unwrap_or (option_map of_file o) k) ∷ map name_of (with_meanings s files (c + 1) ks) ≡ name_of k ∷ map name_of ks
     by true o e = ap (λ xs. k.name ∷ xs) e
     by false None e = ap (λ xs. k.name ∷ xs) e
     by false (Some f) e = ap (λ xs. k.name ∷ xs) e

@@ -18,7 +18,7 @@ use Rattle.link_model.specs.ClassFiles.{super_name, interface_names}
 use Rattle.link_model.specs.LinkFaults.{IsLinked, may_implement, listed_place, next_above, all_above, is_above_itself}
 use Rattle.link_model.specs.Linking.{outline, class_number, class_id, class_of_file, array_names, named_arrays}
 use Rattle.program_model.specs.Lookup.{class_at, class_count, supers_within, supers_of, parent_list}
-use Rattle.jx_base.specs.Basics.{mapped, and_then, firsts}
+use Rattle.jx_base.specs.Basics.{firsts}
 use Rattle.jx_base.proofs.BasicLaws.{passed}
 use Rattle.link_laws.specs.Supers.{right_above, InterfacesHold}
 use Rattle.link_laws.proofs.Above.{no_longer, firsts_once, find_none, above_next, above_more, comes_back}
@@ -30,6 +30,7 @@ use Rattle.link_laws.proofs.Origins.{IsOutlined, IsBuiltIn, IsOfFile, IsOfArray,
 use Rattle.link_laws.proofs.Rises.{built_in_parent, built_in_outlined, array_parent}
 use Rattle.link_laws.proofs.Templates.{IsListed, file_listed, listed_sound, unturned}
 use Rattle.link_laws.proofs.Uses.{either_true, and_then_some, mapped_some}
+use Rattle.std.specs.Option.{option_and_then, option_map}
 
 -- flat maps of functions that agree on the items
 same_flat : {A B : Type 0} (f g : A → List B) (xs : List A) → ((x : A) → Among xs x → f x ≡ g x) → flat_map f xs ≡ flat_map g xs
@@ -97,7 +98,7 @@ module _ (plan : Plan) (files : List ClassFile) (s : System) (linked : IsLinked 
         | inl q ↦ AboveBuiltIn (subst (λ n. n < built_in_count)
             (same_there portal_class number.0 (sym (built_in_number plan files s linked portal_class r.0 (portal_named ∙ ap Some (sym (same_text r.0 (codes "jx/Portal") q)))) ∙ number.1)) portal_small)
         | inr q ↦
-            let g = passed (λ (f : ClassFile). is_interface_flag f.flags) (and_then (listed_place plan t r.0) (slice_get files)) q in
+            let g = passed (λ (f : ClassFile). is_interface_flag f.flags) (option_and_then (slice_get files) (listed_place plan t r.0)) q in
             let place = and_then_some (listed_place plan t r.0) (slice_get files) g.0 g.1 in
             let k = named_above plan files s linked t p f r.0 place.0 l.file (inr r.1) place.1 in
             subst (IsAbove plan files s linked t p) (same_there (built_in_count + place.0) number.0 (sym k.0 ∙ number.1)) k.1
@@ -105,12 +106,12 @@ module _ (plan : Plan) (files : List ClassFile) (s : System) (linked : IsLinked 
 
   -- all that stands right above a listed class does so in the list, or is built in
   all_right_above : (t : Template) (p : ℕ) (n : List ℕ) (f : ClassFile) → IsListed plan files t p n f → (x : ℕ) → Among (right_above (class_of_file plan files (built_in_count + p) f)) x → IsAbove plan files s linked t p x
-  unfolding class_of_file class_id mapped parent_list
+  unfolding class_of_file class_id parent_list
   all_right_above t p n f l x a =
       let q = super_number plan files s linked t p n f l in
       elim (among_either (map (λ (i : ClassId). i.0) (filter_map (class_id plan) (interface_names f))) (parent_list (class_id plan (super_name f))) x a) [
         | inl b ↦ let r = from_map (λ (i : ClassId). i.0) (filter_map (class_id plan) (interface_names f)) x b in subst (IsAbove plan files s linked t p) r.2 (interface_above t p n f l r.0 r.1)
-        | inr b ↦ elim (subst (λ (o : Option ClassId). Among (parent_list o) x) (ap (mapped (λ (c : ℕ). record { 0 = c })) q.1) b) [ inl w ↦ subst (IsAbove plan files s linked t p) w q.2 | inr w ↦ absurd w ]
+        | inr b ↦ elim (subst (λ (o : Option ClassId). Among (parent_list o) x) (ap (option_map (λ (c : ℕ). record { 0 = c })) q.1) b) [ inl w ↦ subst (IsAbove plan files s linked t p) w q.2 | inr w ↦ absurd w ]
       ]
 
   -- how the ways up from a listed class end, behind those that were seen

@@ -24,7 +24,7 @@ use Rattle.link_model.specs.LinkFaults.{IsLinked, has_tag_for, dimensions_of, is
 use Rattle.link_model.specs.Linking.{array_names, named_arrays}
 use Rattle.program_model.specs.Lookup.{class_named, class_of_type, class_name_of_type, type_of_name}
 use Rattle.program_model.specs.Types.{innermost_type, is_number_type, is_reference_type, element_type}
-use Rattle.jx_base.specs.Basics.{contains_number, mapped}
+use Rattle.jx_base.specs.Basics.{contains_number}
 use Rattle.jx_base.proofs.BasicLaws.{both, eq_of}
 use Rattle.link_laws.specs.Arrays.{IsTypeIn}
 use Rattle.link_laws.specs.Linked.{IsLinkedFrom}
@@ -34,6 +34,7 @@ use Rattle.link_laws.proofs.Fitting.{array_itself, file_usable, file_uses, file_
 use Rattle.link_laws.proofs.Lists.{Among, among_at, among_either, below_length, each_among, among_front, among_behind, among_flat, at_among, text_there, among_given, from_map, position_there, same_text, text_same}
 use Rattle.link_laws.proofs.Templates.{IsListed, file_listed}
 use Rattle.link_laws.proofs.Uses.{either_true, plain_there}
+use Rattle.std.specs.Option.{option_map}
 
 -- ---- types
 
@@ -321,12 +322,12 @@ module _ (plan : Plan) (files : List ClassFile) (s : System) (from : IsLinkedFro
 
   -- an array class that a file mentions has elements of the system
   mentioned_elements : (f : ClassFile) (type : List ℕ) → Among files f → IsMentioned f (91 ∷ type) → IsTypeIn s type
-  unfolding arrays_of_code arrays_of_instr uses_of_code used_by mapped
+  unfolding arrays_of_code arrays_of_instr uses_of_code used_by
   mentioned_elements f type h (ByInstr m c i a e b q) =
       let p = among_at files f h in
       let l = file_listed plan files s linked p.0 f p.1 in
       let used : (v : Use) → use_by (row_at i.opcode) i ≡ Some v → Among (uses_of f) (record { use_of = v; index = index_operand i 0 }) =
-      λ v g. file_uses f m c _ a e (among_front (filter_map used_by (instructions_of c.code)) (catch_uses c) _ (among_given used_by (instructions_of c.code) i _ b (ap (mapped (λ (w : Use). record { use_of = w; index = index_operand i 0 })) g))) in
+      λ v g. file_uses f m c _ a e (among_front (filter_map used_by (instructions_of c.code)) (catch_uses c) _ (among_given used_by (instructions_of c.code) i _ b (ap (option_map (λ (w : Use). record { use_of = w; index = index_operand i 0 })) g))) in
       let mentioned = class_mentioned f (row_at i.opcode) i in
       array_elements plan files s linked l.0 mentioned
       (mentioned_known l.0 p.0 l.1 f l.2 (row_at i.opcode) i (λ v g. index_known l.0 p.0 l.1 f l.2 (record { use_of = v; index = index_operand i 0 }) (used v g))

@@ -24,7 +24,7 @@ use Rattle.program_model.specs.Instructions.{index_operand, instructions_of}
 use Rattle.link_model.specs.LinkFaults.{dimensions_of, has_tag_for, use_fault, uses_fault}
 use Rattle.link_model.specs.Linking.{Source, outline, meanings_of, linked_method, named_arrays, array_names, files_of, meaning_of}
 use Rattle.program_model.specs.Lookup.{constant_at, method_at, type_of_name}
-use Rattle.jx_base.specs.Basics.{and_then, contains_number}
+use Rattle.jx_base.specs.Basics.{contains_number}
 use Rattle.jx_base.proofs.BasicLaws.{eq_of, same_number}
 use Rattle.link_laws.specs.Linked.{IsLinkedFrom}
 use Rattle.link_laws.specs.Meanings.{ConstantsFit, MeansFitting, FitsUse}
@@ -37,6 +37,7 @@ use Rattle.link_laws.proofs.Origins.{file_linked, method_source, at_meaning}
 use Rattle.link_laws.proofs.Sources.{IsSource, OfBuiltIn, OfFile, is_source}
 use Rattle.link_laws.proofs.Templates.{IsListed, file_listed, listed_uses}
 use Rattle.link_laws.proofs.Uses.{IsUsable, use_means, usable, of_some, mapped_some}
+use Rattle.std.specs.Option.{option_and_then}
 
 -- what a list contains stands in it
 pub contained : {A : Type 0} (xs : List A) (x : A) → Contains xs x → Among xs x
@@ -160,7 +161,7 @@ module _ (plan : Plan) (files : List ClassFile) (s : System) (from : IsLinkedFro
   pub use_told : (p : ℕ) (f : ClassFile) (m : Member) (c : Code) (u : Used) → slice_get files p ≡ Some f → Among f.methods m → m.code ≡ Some c → Among (uses_of_code c) u
       → ((name : List ℕ) → class_at_index f u.index ≡ name → (dimensions_of name == 0) ≡ false → Among (arrays_of_code f c) name)
       → (r : Resolved) × (meaning_of (outline plan files) f (constant_in f u.index) ≡ Some r) × (constant_at s (built_in_count + p) u.index ≡ Some r) × FitsUse s u.use_of r
-  unfolding constant_at and_then class_at_index meanings_of
+  unfolding constant_at class_at_index meanings_of
   use_told p f m c u e h g k arrays =
       let l = file_listed plan files s from.linked p f e in
       let all : Among (uses_of f) u = file_uses f m c u h g k in
@@ -169,7 +170,7 @@ module _ (plan : Plan) (files : List ClassFile) (s : System) (from : IsLinkedFro
       (λ name q d. file_arrays plan files l.0 p l.1 f name l.2 (code_arrays f m c name h g (arrays name (ap (λ (o : Option (List ℕ)). elim o as (λ _. List ℕ) [ None ↦ [] | Some n ↦ n ]) q) d))) in (
         means.0,
         means.1,
-        (ap (λ o. and_then o (λ (x : Class). slice_get x.constants u.index)) (file_linked plan files s from.linked p f e)
+        (ap (λ o. option_and_then (λ (x : Class). slice_get x.constants u.index) o) (file_linked plan files s from.linked p f e)
             ∙ at_meaning (outline plan files) f (map (λ u. u.index) (uses_of f)) 0 f.constants u.index (constant_in f u.index) means.0
             (used_there f u.index u.use_of usable.tag) (ap (contains_number (map (λ u. u.index) (uses_of f))) (omega arith) ∙ index_used f u all) means.1),
         means.2,

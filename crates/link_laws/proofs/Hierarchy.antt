@@ -15,7 +15,7 @@ use Rattle.link_model.specs.ClassFiles.{super_name, interface_names}
 use Rattle.link_model.specs.LinkFaults.{IsLinked, may_implement, listed_place}
 use Rattle.link_model.specs.Linking.{outline, linked_system, class_number, class_id, class_of_file, array_class_named, own_fields}
 use Rattle.program_model.specs.Lookup.{class_at, class_count, is_interface}
-use Rattle.jx_base.specs.Basics.{mapped, passes, and_then}
+use Rattle.jx_base.specs.Basics.{passes}
 use Rattle.jx_base.proofs.BasicLaws.{passed}
 use Rattle.link_laws.specs.Supers.{BeginsWithLayout, HasSupers, SupersHold, IsKnownTo, HasKnownSupers, ListsHold}
 use Rattle.link_laws.proofs.Above.{find_none}
@@ -28,6 +28,7 @@ use Rattle.link_laws.proofs.Origins.{IsOutlined, IsBuiltIn, IsOfFile, IsOfArray,
 use Rattle.link_laws.proofs.Rises.{Rises, rises, built_in_parent, built_in_outlined, array_parent, file_parent, rising_class, chain_grows, chain_ends, chain_once}
 use Rattle.link_laws.proofs.Templates.{IsListed, file_listed, listed_sound, unturned}
 use Rattle.link_laws.proofs.Uses.{either_true, and_then_some, mapped_some, of_some}
+use Rattle.std.specs.Option.{option_and_then, option_map}
 
 -- ---- small facts
 
@@ -124,7 +125,7 @@ module _ (plan : Plan) (files : List ClassFile) (s : System) (linked : IsLinked 
       elim (either_true _ _ may) [
         | inl q ↦ OfPortals (here ∙ same_there number.0 portal_class (sym number.1 ∙ built_in_number plan files s linked portal_class r.0 (portal_named ∙ ap Some (sym (same_text r.0 (codes "jx/Portal") q)))))
         | inr q ↦
-            let g = passed (λ (f : ClassFile). is_interface_flag f.flags) (and_then (listed_place plan t r.0) (slice_get files)) q in
+            let g = passed (λ (f : ClassFile). is_interface_flag f.flags) (option_and_then (slice_get files) (listed_place plan t r.0)) q in
             let place = and_then_some (listed_place plan t r.0) (slice_get files) g.0 g.1 in
             let k = place_named plan files s linked t r.0 place.0 place.1 in
             OfListed place.0 g.0 (here ∙ same_there number.0 (built_in_count + place.0) (sym number.1 ∙ plan_number plan files s linked place.0 r.0 k.1)) k.0 place.2 g.2
@@ -284,7 +285,7 @@ module _ (plan : Plan) (files : List ClassFile) (s : System) (linked : IsLinked 
 
   -- the lists of templates hold what their classes need
   pub lists_hold : ListsHold s
-  unfolding linked_system outline class_of_file class_id mapped
+  unfolding linked_system outline class_of_file class_id
   lists_hold t p h l =
       let there : Among plan.templates t = subst (λ (x : Plan). Among x.templates t) (ap (λ (x : System). x.plan) linked.system) (contained s.plan.templates t h) in
       let listed = contained t.classes p l in
@@ -295,6 +296,6 @@ module _ (plan : Plan) (files : List ClassFile) (s : System) (linked : IsLinked 
       let above = super_number plan files s linked t p name.0 f.0 is in
       of_some (HasKnownSupers t) (class_at s (built_in_count + p)) _ (file_linked plan files s linked p f.0 f.1) (record {
         parent = if_there (λ (p : ClassId). IsKnownTo t p.0) (class_id plan (super_name f.0)) (λ x e.
-            subst (λ (y : ClassId). IsKnownTo t y.0) (same_there _ x (sym (ap (mapped (λ (c : ℕ). record { 0 = c })) above.1) ∙ e)) (above_known t p above.0 above.2));
+            subst (λ (y : ClassId). IsKnownTo t y.0) (same_there _ x (sym (ap (option_map (λ (c : ℕ). record { 0 = c })) above.1) ∙ e)) (above_known t p above.0 above.2));
         interfaces = of_all (λ (i : ClassId). IsKnownTo t i.0) (filter_map (class_id plan) (interface_names f.0)) (λ i a. interface_known t i.0 (interface_named t p name.0 f.0 is i a));
       })

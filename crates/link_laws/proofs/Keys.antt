@@ -11,10 +11,10 @@ use Rattle.link_model.specs.ClassFiles.{member_selector}
 use Rattle.link_model.specs.LinkFaults.{repeated_after, repeated_name}
 use Rattle.link_model.specs.Linking.{Source, declared_of, file_sources, file_sources_from, built_in_sources_from, sources}
 use Rattle.program_model.specs.Lookup.{same_selector, opened_lookup}
-use Rattle.jx_base.specs.Basics.{mapped, or_zero}
 use Rattle.link_laws.proofs.Classes.{built_in_length}
 use Rattle.link_laws.proofs.Lists.{Among, IsOnce, among_either, among_any, from_map, among_map, map_joined, once_joined, position_at, position_there, each_among}
 use Rattle.link_laws.proofs.Sources.{selectors_of, selector_there, same_selectors, selector_itself}
+use Rattle.std.specs.Option.{option_map, unwrap_or}
 
 -- ---- selectors of one class
 
@@ -37,10 +37,10 @@ no_repeat seen (x ∷ xs) h = by (list_any (same_selector x) seen) refl h (no_re
 
 -- members of which none stood before
 pub members_once : (ms : List Member) → repeated_name ms ≡ None → IsOnce (map member_selector ms)
-unfolding repeated_name mapped
+unfolding repeated_name
 members_once ms h = (no_repeat [] (map member_selector ms) (by (repeated_after [] (map member_selector ms)) h)).0
   where
-    by : (o : Option Selector) → mapped (λ x. x.name) o ≡ None → o ≡ None
+    by : (o : Option Selector) → option_map (λ x. x.name) o ≡ None → o ≡ None
     by None q = refl
     by (Some x) q = absurd cc
 
@@ -160,9 +160,8 @@ all_keys files h =
 
 -- the number of a method's selector is that of the selector
 pub selector_told : (files : List ClassFile) (y : Source) → Among (sources files) y →
-    slice_get (selectors_of files) (or_zero (position (same_selector y.declared.selector) (selectors_of files))) ≡ Some y.declared.selector
-unfolding or_zero
+    slice_get (selectors_of files) (unwrap_or (position (same_selector y.declared.selector) (selectors_of files)) 0) ≡ Some y.declared.selector
 selector_told files y h =
     let r = position_there (same_selector y.declared.selector) (selectors_of files) y.declared.selector (selector_there files y h) (selector_itself y.declared.selector) in
     let k = position_at (same_selector y.declared.selector) (selectors_of files) r.0 r.1 in
-    ap (λ o. slice_get (selectors_of files) (or_zero o)) r.1 ∙ k.1 ∙ ap Some (sym (same_selectors y.declared.selector k.0 k.2))
+    ap (λ o. slice_get (selectors_of files) (unwrap_or o 0)) r.1 ∙ k.1 ∙ ap Some (sym (same_selectors y.declared.selector k.0 k.2))

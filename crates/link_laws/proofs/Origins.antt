@@ -14,10 +14,11 @@ use Rattle.program_model.specs.BuiltIn.{built_in_table, built_in_count}
 use Rattle.link_model.specs.LinkFaults.{IsLinked}
 use Rattle.link_model.specs.Linking.{Source, outline, linked_classes, classes_from, class_of_file, array_class_named, array_names, with_meanings, meanings_of, meanings_from, meaning_of, linked_system, linked_method, sources}
 use Rattle.program_model.specs.Lookup.{class_at, method_at, is_built_in}
-use Rattle.jx_base.specs.Basics.{mapped, contains_number}
+use Rattle.jx_base.specs.Basics.{contains_number}
 use Rattle.link_laws.proofs.Classes.{built_in_length}
 use Rattle.link_laws.proofs.Lists.{Among, at_among, at_below, at_either, at_front, at_behind, below_length, from_map_at, same_there}
 use Rattle.link_laws.proofs.Sources.{selectors_of}
+use Rattle.std.specs.Option.{option_map}
 
 -- ---- the outline
 
@@ -84,7 +85,7 @@ file_outlined plan files p f e =
 
 -- a class with what its constants mean
 unfoldable pub meant_of : System → List ClassFile → ℕ → Class → Class
-meant_of s files c k = if is_built_in c then k else unwrap_or (mapped (λ (f : ClassFile). record k { constants = meanings_of s f }) (slice_get files (c - built_in_count))) k
+meant_of s files c k = if is_built_in c then k else unwrap_or (option_map (λ (f : ClassFile). record k { constants = meanings_of s f }) (slice_get files (c - built_in_count))) k
 
 -- the class at a place with what its constants mean
 at_meant : (s : System) (files : List ClassFile) (c : ℕ) (ks : List Class) (i : ℕ) (k : Class) → slice_get ks i ≡ Some k →
@@ -120,10 +121,10 @@ alike_itself k = record { name = refl; parent = refl; interfaces = refl; compone
 
 -- what constants mean changes nothing else
 pub meant_alike : (s : System) (files : List ClassFile) (c : ℕ) (k : Class) → IsAlike (meant_of s files c k) k
-unfolding meant_of mapped
+unfolding meant_of
 meant_alike s files c k = by (is_built_in c) (slice_get files (c - built_in_count))
   where
-    by : (b : Bool) (o : Option ClassFile) → IsAlike (if b then k else unwrap_or (mapped (λ (f : ClassFile). record k { constants = meanings_of s f }) o) k) k
+    by : (b : Bool) (o : Option ClassFile) → IsAlike (if b then k else unwrap_or (option_map (λ (f : ClassFile). record k { constants = meanings_of s f }) o) k) k
     by true o = alike_itself k
     by false None = alike_itself k
     by false (Some f) = record { name = refl; parent = refl; interfaces = refl; component = refl; fields = refl; statics = refl; methods = refl; flags = refl }
@@ -164,7 +165,7 @@ module _ (plan : Plan) (files : List ClassFile) (s : System) (linked : IsLinked 
   -- what the class of a file means
   pub file_linked : (p : ℕ) (f : ClassFile) → slice_get files p ≡ Some f →
       class_at s (built_in_count + p) ≡ Some (record (class_of_file plan files (built_in_count + p) f) { constants = meanings_of (outline plan files) f })
-  unfolding class_at outline meant_of mapped is_built_in
+  unfolding class_at outline meant_of is_built_in
   file_linked p f e = class_linked (built_in_count + p) (class_of_file plan files (built_in_count + p) f) (file_outlined plan files p f e)
       ∙ by (nat_lt (built_in_count + p) built_in_count) (slice_get files (built_in_count + p - built_in_count)) (λ h. no (Decides-ltb (built_in_count + p) built_in_count).0 h)
       (ap (slice_get files) (omega arith) ∙ e)
@@ -176,7 +177,7 @@ module _ (plan : Plan) (files : List ClassFile) (s : System) (linked : IsLinked 
       no g h = let k = g h in omega (arith, k)
 
       by : (b : Bool) (o : Option ClassFile) → (b ≡ true → ⊥) → o ≡ Some f →
-          Some (if b then h else unwrap_or (mapped (λ (g : ClassFile). record h { constants = meanings_of (outline plan files) g }) o) h)
+          Some (if b then h else unwrap_or (option_map (λ (g : ClassFile). record h { constants = meanings_of (outline plan files) g }) o) h)
           ≡ Some (record h { constants = meanings_of (outline plan files) f })
       by true o n q = absurd (n refl)
       by false None n q = absurd cc

@@ -14,13 +14,13 @@ use Rattle.link_model.specs.ClassFiles.{super_name}
 use Rattle.link_model.specs.LinkFaults.{IsLinked}
 use Rattle.link_model.specs.Linking.{outline, class_number, class_id, class_of_file, array_class_named, linked_classes, classes_from, array_names}
 use Rattle.program_model.specs.Lookup.{class_at, class_count, chain_of, chain_within, parent_list}
-use Rattle.jx_base.specs.Basics.{mapped}
 use Rattle.jx_base.proofs.BasicLaws.{both, eq_of}
 use Rattle.link_laws.proofs.Above.{no_longer}
 use Rattle.link_laws.proofs.Classes.{built_in_length}
 use Rattle.link_laws.proofs.Climbs.{Climbs, climbs, some_built_in}
 use Rattle.link_laws.proofs.Lists.{Among, IsOnce, at_front, at_below, below_length, one_place, same_there, in_range}
 use Rattle.link_laws.proofs.Origins.{IsOutlined, IsBuiltIn, IsOfFile, IsOfArray, is_outlined, class_linked, class_outlined, meant_of, meant_alike, file_linked}
+use Rattle.std.specs.Option.{option_map}
 
 -- ---- the built-in classes
 
@@ -110,8 +110,8 @@ module _ (plan : Plan) (files : List ClassFile) (s : System) (linked : IsLinked 
   -- the parent of the class of a file
   pub file_parent : (p q : ℕ) (f : ClassFile) → slice_get files p ≡ Some f → class_number plan (super_name f) ≡ Some q →
       (k : Class) × (class_at s (built_in_count + p) ≡ Some k) × (k.parent ≡ Some (record { 0 = q }))
-  unfolding class_of_file class_id mapped
-  file_parent p q f e n = (_, file_linked plan files s linked p f e, ap (mapped (λ c. record { 0 = c })) n)
+  unfolding class_of_file class_id
+  file_parent p q f e n = (_, file_linked plan files s linked p f e, ap (option_map (λ c. record { 0 = c })) n)
 
   -- each class from which the plan's classes climb rises
   rises_climbing : (n c : ℕ) → Climbs plan files s linked n c → (m : ℕ) × Rises m c

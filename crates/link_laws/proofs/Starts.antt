@@ -19,7 +19,7 @@ use Rattle.link_model.specs.Linking.{Source, sources, declared_of, file_sources,
 use Rattle.program_model.specs.Lookup.{method_at, selector_at, selector_of_method}
 use Rattle.machine_model.specs.Start.{method_places, is_static_method_of, static_methods, started_classes, initializers, is_main_selector, mains}
 use Rattle.machine_model.specs.State.{code_of}
-use Rattle.jx_base.specs.Basics.{passes, and_then, mapped}
+use Rattle.jx_base.specs.Basics.{passes}
 use Rattle.machine_model.specs.MachineThreads.{is_initializer_selector}
 use Rattle.jx_base.proofs.BasicLaws.{both, passed, eq_of, same_number}
 use Rattle.link_laws.specs.Linked.{IsLinkedFrom}
@@ -32,6 +32,7 @@ use Rattle.link_laws.proofs.Sources.{selectors_of}
 use Rattle.link_laws.proofs.Templates.{listed_main, test_fails, unturned}
 use Rattle.link_laws.proofs.Uses.{and_then_some}
 use Rattle.link_laws.proofs.Whole.{source_at, method_there, selector_of_source, one_source}
+use Rattle.std.specs.Option.{option_and_then, option_map}
 
 -- ---- filters and ranges
 
@@ -154,11 +155,11 @@ all_three false b c x y z = absurd cc
 module _ (plan : Plan) (files : List ClassFile) (s : System) (from : IsLinkedFrom plan files s) where
   -- a static method that a start runs has code
   static_code : (test : Selector → Bool) (c m : ℕ) → Among (static_methods s test c) m → IsSome (code_of s m)
-  unfolding static_methods is_static_method_of code_of and_then
+  unfolding static_methods is_static_method_of code_of
   static_code test c m h =
       let k = kept _ (method_places s) m h in
       let x = passed (is_static_method_of c) (method_at s m) (both (passes (is_static_method_of c) (method_at s m)) (passes test (selector_of_method s m)) k.0).0 in
-      ap (λ o. is_some (and_then o (λ (x : Method). x.code))) x.1 ∙ (both ((x.0.class.0 == c) && is_static x.0.flags) (is_some x.0.code) x.2).1
+      ap (λ o. is_some (option_and_then (λ (x : Method). x.code) o)) x.1 ∙ (both ((x.0.class.0 == c) && is_static x.0.flags) (is_some x.0.code) x.2).1
 
   -- all that a start runs has code
   start_code : (t : Template) → All (λ m. IsSome (code_of s m)) (initializers s t ++ mains s t)
@@ -171,7 +172,7 @@ module _ (plan : Plan) (files : List ClassFile) (s : System) (from : IsLinkedFro
 
   -- a template's main method
   main_there : (t : Template) → Among plan.templates t → (f : ClassFile) × (m : Member) × (slice_get files t.main ≡ Some f) × Among f.methods m × IsMain m
-  unfolding main_fault listing_at listed_name and_then mapped
+  unfolding main_fault listing_at listed_name
   main_there t h =
       let small = place_small plan files s from.linked t t.main h (main_listed plan files s from.linked t h) in
       let name = at_below plan.classes t.main small in
@@ -180,7 +181,7 @@ module _ (plan : Plan) (files : List ClassFile) (s : System) (from : IsLinkedFro
       (f.0, m.0, f.1, m.1, main_is m.0 m.2)
     where
       by : (a : Option (List ℕ)) (b : Option ClassFile) (n : List ℕ) (f : ClassFile) → a ≡ Some n → b ≡ Some f
-          → and_then (and_then a (λ name. mapped (λ (f : ClassFile). record { place = t.main; name = name; file = f }) b)) (λ (x : Listing). main_fault x.name x.file) ≡ None → list_any is_main f.methods ≡ true
+          → option_and_then (λ (x : Listing). main_fault x.name x.file) (option_and_then (λ name. option_map (λ (f : ClassFile). record { place = t.main; name = name; file = f }) b) a) ≡ None → list_any is_main f.methods ≡ true
       by None b n f e g w = absurd cc
       by (Some a) None n f e g w = absurd cc
       by (Some a) (Some b) n f e g w =
@@ -189,7 +190,7 @@ module _ (plan : Plan) (files : List ClassFile) (s : System) (from : IsLinkedFro
 
   -- the main method stands alone
   main_alone : (t : Template) → Among plan.templates t → (m : ℕ) × (mains s t ≡ m ∷ [])
-  unfolding mains static_methods method_places selector_of_method is_static_method_of method_at linked_method declared_of and_then
+  unfolding mains static_methods method_places selector_of_method is_static_method_of method_at linked_method declared_of
   main_alone t h =
       let a = main_there t h in
       let place = among_at (sources files) (source_of (built_in_count + t.main) a.1) (source_there files t.main a.0 a.1 a.2 a.3) in
@@ -204,21 +205,21 @@ module _ (plan : Plan) (files : List ClassFile) (s : System) (from : IsLinkedFro
       there {x} m e = in_range 0 (length s.program.methods) m (omega arith) (omega (arith, below_length s.program.methods m x e))
 
       passes_it : (a : Member) (m : ℕ) → IsMain a → slice_get (sources files) m ≡ Some (source_of (built_in_count + t.main) a) → method_at s m ≡ Some (linked_method (selectors_of files) (source_of (built_in_count + t.main) a))
-          → (passes (is_static_method_of (built_in_count + t.main)) (method_at s m) && passes is_main_selector (and_then (method_at s m) (λ x. selector_at s x.selector.0))) ≡ true
+          → (passes (is_static_method_of (built_in_count + t.main)) (method_at s m) && passes is_main_selector (option_and_then (λ x. selector_at s x.selector.0) (method_at s m))) ≡ true
       passes_it a m is e there =
           let x : Method = linked_method (selectors_of files) (source_of (built_in_count + t.main) a) in
           let y : Source = source_of (built_in_count + t.main) a in
           let selector = selector_of_source plan files s from y (at_among (sources files) m y e) in
           and_both _ _ (passing _ (method_at s m) x there (all_three _ _ _ (same_number (built_in_count + t.main)) is.static is.code))
-          (passing is_main_selector (and_then (method_at s m) (λ (x : Method). selector_at s x.selector.0)) (member_selector a)
-          (ap (λ o. and_then o (λ (x : Method). selector_at s x.selector.0)) there ∙ selector) is.selector)
+          (passing is_main_selector (option_and_then (λ (x : Method). selector_at s x.selector.0) (method_at s m)) (member_selector a)
+          (ap (λ o. option_and_then (λ (x : Method). selector_at s x.selector.0) o) there ∙ selector) is.selector)
 
       only : (a : Member) (m : ℕ) → IsMain a → slice_get (sources files) m ≡ Some (source_of (built_in_count + t.main) a) → (n : ℕ)
-          → (passes (is_static_method_of (built_in_count + t.main)) (method_at s n) && passes is_main_selector (and_then (method_at s n) (λ x. selector_at s x.selector.0))) ≡ true → n ≡ m
+          → (passes (is_static_method_of (built_in_count + t.main)) (method_at s n) && passes is_main_selector (option_and_then (λ x. selector_at s x.selector.0) (method_at s n))) ≡ true → n ≡ m
       only a m is e n w =
-          let k = both (passes (is_static_method_of (built_in_count + t.main)) (method_at s n)) (passes is_main_selector (and_then (method_at s n) (λ (x : Method). selector_at s x.selector.0))) w in
+          let k = both (passes (is_static_method_of (built_in_count + t.main)) (method_at s n)) (passes is_main_selector (option_and_then (λ (x : Method). selector_at s x.selector.0) (method_at s n))) w in
           let x = passed (is_static_method_of (built_in_count + t.main)) (method_at s n) k.0 in
-          let y = passed is_main_selector (and_then (method_at s n) (λ (x : Method). selector_at s x.selector.0)) k.1 in
+          let y = passed is_main_selector (option_and_then (λ (x : Method). selector_at s x.selector.0) (method_at s n)) k.1 in
           let v = and_then_some (method_at s n) (λ (x : Method). selector_at s x.selector.0) y.0 y.1 in
           let z = source_at plan files s from n v.0 v.1 in
           let there = at_among (sources files) n z.0 z.1 in

@@ -8,11 +8,12 @@ use Rattle.jx_base.specs.declared.class_file.ClassFile.{ClassFile}
 use Rattle.jx_base.specs.declared.program.Plan.{Plan}
 use Rattle.jx_base.specs.declared.program.System.{System}
 use Rattle.jx_base.specs.declared.program.Template.{Template}
-use Rattle.jx_base.specs.Basics.{and_then, mapped, firsts}
+use Rattle.jx_base.specs.Basics.{firsts}
 use Rattle.link_model.specs.ClassFiles.{this_name, super_name, interface_names}
 use Rattle.link_model.specs.Linking.{outline}
 use Rattle.link_model.specs.LinkFaults.{LinkFault, LinkKind, NoClass, SuperLoop, Twice, WrongName, fault_if, first_fault, named_fault, listed_name, listing_at, Listing, may_extend, may_implement, is_above_itself, repeated_name, class_fault, main_fault, uses_fault, template_fault, first_link_fault, IsLinked}
 use Rattle.link_laws.proofs.Lists.{Among, none_given, among_given, at_below, from_flat, firsts_there, in_range, below_length, same_items, from_map_at, same_text, same_there}
+use Rattle.std.specs.Option.{option_and_then, option_map}
 
 -- ---- faults
 
@@ -29,7 +30,7 @@ test_fails false class kind name h = refl
 
 -- without a fault there is no name
 pub name_fails : (class : List ℕ) (kind : LinkKind) (name : Option (List ℕ)) → named_fault class kind name ≡ None → name ≡ None
-unfolding named_fault mapped
+unfolding named_fault
 name_fails class kind None h = refl
 name_fails class kind (Some n) h = absurd cc
 
@@ -75,10 +76,10 @@ listing p name f = record { place = p; name = name; file = f }
 -- a class of a template's list is listed
 listing_there : (plan : Plan) (files : List ClassFile) (t : Template) (p : ℕ) (name : List ℕ) (f : ClassFile) → IsListed plan files t p name f →
     Among (filter_map (listing_at plan files) t.classes) (listing p name f)
-unfolding listing_at listed_name and_then mapped
+unfolding listing_at listed_name
 listing_there plan files t p name f h = among_given (listing_at plan files) t.classes p (listing p name f) h.listed (by (slice_get plan.classes p) (slice_get files p) h.named h.file)
   where
-    by : (a : Option (List ℕ)) (b : Option ClassFile) → a ≡ Some name → b ≡ Some f → and_then a (λ n. mapped (λ g. listing p n g) b) ≡ Some (listing p name f)
+    by : (a : Option (List ℕ)) (b : Option ClassFile) → a ≡ Some name → b ≡ Some f → option_and_then (λ n. option_map (λ g. listing p n g) b) a ≡ Some (listing p name f)
     by None b e k = absurd cc
     by (Some n) None e k = absurd cc
     by (Some n) (Some g) e k = cc
@@ -111,7 +112,7 @@ module _ (plan : Plan) (files : List ClassFile) (s : System) (linked : IsLinked 
         none_given (λ (x : Listing). uses_fault (outline plan files) plan t x.name x.file) _ (listing p name f) (no_fault_of _ _ (faultless t h.template) (inr (inr (inl refl)))) (listing_there plan files t p name f h)
 
   -- the main class of a template has a main method
-  pub listed_main : (t : Template) → Among plan.templates t → and_then (listing_at plan files t.main) (λ x. main_fault x.name x.file) ≡ None
+  pub listed_main : (t : Template) → Among plan.templates t → option_and_then (λ x. main_fault x.name x.file) (listing_at plan files t.main) ≡ None
   unfolding template_fault
   listed_main t h = no_fault_of _ _ (faultless t h) (inr (inl refl))
 

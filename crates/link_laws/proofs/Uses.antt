@@ -30,7 +30,7 @@ use Rattle.link_model.specs.Linking.{Source, outline, in_class, found_field, fou
 use Rattle.program_model.specs.Lookup.{class_at, class_named, class_count, method_at, supers_of, is_interface}
 use Rattle.machine_model.specs.State.{static_types, static_types_of}
 use Rattle.program_model.specs.Types.{innermost_type}
-use Rattle.jx_base.specs.Basics.{and_then, mapped, passes, first_some, contains_number}
+use Rattle.jx_base.specs.Basics.{passes, first_some, contains_number}
 use Rattle.jx_base.proofs.BasicLaws.{both, passed, eq_of, same_number}
 use Rattle.link_laws.specs.Meanings.{CanRun, runs_as_found, FitsCall, CanBeMade, HasPlace, FitsUse}
 use Rattle.jx_base.specs.declared.program.Declared.{Declared}
@@ -41,6 +41,7 @@ use Rattle.link_laws.proofs.Lists.{Among, among_front, among_behind, any_among, 
 use Rattle.link_laws.proofs.Origins.{class_linked, meant_of, meant_alike, same_methods, method_source}
 use Rattle.link_laws.proofs.Sources.{selectors_of, IsSource, OfBuiltIn, OfFile, is_source}
 use Rattle.link_laws.proofs.Templates.{no_fault_of, test_fails, unturned}
+use Rattle.std.specs.Option.{option_and_then, option_map}
 
 -- ---- small facts
 
@@ -66,14 +67,12 @@ some_given {A} {B} f (x ∷ xs) y h = by (f x) refl h (some_given f xs y)
     by None e q again = let r = again q in (r.0, inr r.1, r.2)
 
 -- what a value gives came from one that is there
-pub and_then_some : {A B : Type 0} (o : Option A) (f : A → Option B) (y : B) → and_then o f ≡ Some y → (x : A) × (o ≡ Some x) × (f x ≡ Some y)
-unfolding and_then
+pub and_then_some : {A B : Type 0} (o : Option A) (f : A → Option B) (y : B) → option_and_then f o ≡ Some y → (x : A) × (o ≡ Some x) × (f x ≡ Some y)
 and_then_some None f y h = absurd cc
 and_then_some (Some x) f y h = (x, refl, h)
 
 -- what f makes of a value came from one that is there
-pub mapped_some : {A B : Type 0} (f : A → B) (o : Option A) (y : B) → mapped f o ≡ Some y → (x : A) × (o ≡ Some x) × (f x ≡ y)
-unfolding mapped
+pub mapped_some : {A B : Type 0} (f : A → B) (o : Option A) (y : B) → option_map f o ≡ Some y → (x : A) × (o ≡ Some x) × (f x ≡ y)
 mapped_some f None y h = absurd cc
 mapped_some f (Some x) y h = (x, refl, same_there (f x) y h)
 
@@ -122,7 +121,7 @@ pub record IsUsable (o : System) (plan : Plan) (t : Template) (f : ClassFile) (v
 
 -- a use without a fault is usable
 pub usable : (o : System) (plan : Plan) (t : Template) (class : List ℕ) (f : ClassFile) (u : Used) → use_fault o plan t class f u ≡ None → IsUsable o plan t f u.use_of (constant_in f u.index)
-unfolding use_fault member_fault and_then
+unfolding use_fault member_fault
 usable o plan t class f u h = by (class_of_constant f k) refl (no_fault_of _ _ h (inl refl)) (no_fault_of _ _ h (inr (inl refl)))
   where
     k : Constant
@@ -141,13 +140,13 @@ usable o plan t class f u h = by (class_of_constant f k) refl (no_fault_of _ _ h
     }
 
     by : (c : Option (List ℕ)) → class_of_constant f k ≡ c → fault_if (not (has_tag_for u.use_of k && shape c)) class BadConstant (decimal u.index) ≡ None
-        → and_then c (λ name. member_fault o plan t class u.use_of name (member_of_constant f k)) ≡ None → IsUsable o plan t f u.use_of k
+        → option_and_then (λ name. member_fault o plan t class u.use_of name (member_of_constant f k)) c ≡ None → IsUsable o plan t f u.use_of k
     by c e q r = record {
       tag = (both (has_tag_for u.use_of k) (shape c) (unturned (has_tag_for u.use_of k && shape c) (test_fails (not (has_tag_for u.use_of k && shape c)) class BadConstant (decimal u.index) q))).0;
       named = λ name g. of name c (sym e ∙ g) r (both (has_tag_for u.use_of k) (shape c) (unturned (has_tag_for u.use_of k && shape c) (test_fails (not (has_tag_for u.use_of k && shape c)) class BadConstant (decimal u.index) q))).1;
     }
       where
-        of : (name : List ℕ) (c : Option (List ℕ)) → c ≡ Some name → and_then c (λ name. member_fault o plan t class u.use_of name (member_of_constant f k)) ≡ None
+        of : (name : List ℕ) (c : Option (List ℕ)) → c ≡ Some name → option_and_then (λ name. member_fault o plan t class u.use_of name (member_of_constant f k)) c ≡ None
             → shape c ≡ true → IsNamed o plan t u.use_of name (member_of_constant f k)
         of name None w q g = absurd cc
         of name (Some n) w q g = subst (λ m. IsNamed o plan t u.use_of m (member_of_constant f k)) (same_there n name w) (named n q g)
@@ -371,11 +370,11 @@ module _ (plan : Plan) (files : List ClassFile) (s : System) (linked : IsLinked 
 
     -- a method that was found in the class of that name
     called_means : (kind : Invocation) (name : List ℕ) (x : Selector) → IsNamed o plan t (AsMethod kind) name x →
-        (r : Resolved) × (mapped (λ m. resolved.Method m) (in_class o name (found_method o x)) ≡ Some r) × FitsUse s (AsMethod kind) r
-    unfolding has_member needs_abstract mapped
+        (r : Resolved) × (option_map (λ m. resolved.Method m) (in_class o name (found_method o x)) ≡ Some r) × FitsUse s (AsMethod kind) r
+    unfolding has_member needs_abstract
     called_means kind name x u =
         let r = passed (is_method_for o kind) (in_class o name (found_method o x)) u.member in
-        (resolved.Method r.0, ap (mapped (λ m. resolved.Method m)) r.1, method_fits read kind r.0 r.2 (λ e. failed (is_abstract_method o) (in_class o name (found_method o x)) r.0 r.1 (by kind e u.whole)))
+        (resolved.Method r.0, ap (option_map (λ m. resolved.Method m)) r.1, method_fits read kind r.0 r.2 (λ e. failed (is_abstract_method o) (in_class o name (found_method o x)) r.0 r.1 (by kind e u.whole)))
       where
         by : (kind : Invocation) → runs_as_found kind ≡ true → needs_abstract o (AsMethod kind) name x ≡ false → passes (is_abstract_method o) (in_class o name (found_method o x)) ≡ false
         by invocation.Special e w = w
@@ -393,10 +392,10 @@ module _ (plan : Plan) (files : List ClassFile) (s : System) (linked : IsLinked 
     -- the class that a Class constant names
     class_there : (n : ℕ) → is_known plan t (text_in f n) ≡ true → IsThere (constant.Class n) →
         (c : ℕ) × (k : Class) × (meaning_of o f (constant.Class n) ≡ Some (resolved.Class (record { 0 = c }))) × (class_named o (text_in f n) ≡ Some c) × (class_at o c ≡ Some k) × (k.name ≡ text_in f n)
-    unfolding meaning_of class_of_constant mapped
+    unfolding meaning_of class_of_constant
     class_there n h there =
         let c = known_class (text_in f n) (known_there t (text_in f n) h (there (text_in f n) refl)) in
-        (c.0, c.1, ap (mapped (λ c. resolved.Class (record { 0 = c }))) c.2, c.2, c.3, c.4)
+        (c.0, c.1, ap (option_map (λ c. resolved.Class (record { 0 = c }))) c.2, c.2, c.3, c.4)
 
     -- a class that is made
     new_means : (k : Constant) → IsUsable o plan t f AsNew k → IsThere k → Means f AsNew k

@@ -21,7 +21,6 @@ use Rattle.program_model.specs.Instructions.{instructions_of, instructions_in, i
 use Rattle.link_model.specs.LinkFaults.{IsLinked}
 use Rattle.link_model.specs.Linking.{Source, outline, sources, declared_of, linked_method}
 use Rattle.program_model.specs.Lookup.{class_at, class_count, method_at, selector_at, same_selector}
-use Rattle.jx_base.specs.Basics.{or_zero}
 use Rattle.std.proofs.Common.{drop, append_assoc, length-append}
 use Rattle.std.proofs.Math.Seq.{drop-append_seam}
 use Rattle.class_grammar.specs.CodeGrammar.{instruction_part}
@@ -44,6 +43,7 @@ use Rattle.link_laws.proofs.Origins.{file_linked, same_methods}
 use Rattle.link_laws.proofs.Sources.{selectors_of, IsSource, OfBuiltIn, OfFile, is_source}
 use Rattle.link_laws.proofs.Templates.{file_listed, listed_sound}
 use Rattle.link_laws.proofs.Uses.{can_run}
+use Rattle.std.specs.Option.{unwrap_or}
 
 -- a value is there
 pub is_there : {A : Type 0} (o : Option A) (x : A) → o ≡ Some x → IsSome o
@@ -143,7 +143,7 @@ module _ (plan : Plan) (files : List ClassFile) (s : System) (from : IsLinkedFro
   -- the selector of a method is that of its source
   pub selector_of_source : (y : Source) → Among (sources files) y → selector_at s (linked_method (selectors_of files) y).selector.0 ≡ Some y.declared.selector
   unfolding selector_at linked_method
-  selector_of_source y h = ap (λ xs. slice_get xs (or_zero (position (same_selector y.declared.selector) (selectors_of files)))) (names.same_selectors plan files s from) ∙ selector_told files y h
+  selector_of_source y h = ap (λ xs. slice_get xs (unwrap_or (position (same_selector y.declared.selector) (selectors_of files)) 0)) (names.same_selectors plan files s from) ∙ selector_told files y h
 
   -- the class of a source is there
   source_class : (y : Source) → IsSource files y → y.class < class_count s

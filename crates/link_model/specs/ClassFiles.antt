@@ -11,11 +11,11 @@ use Rattle.jx_base.specs.declared.program.Selector.{Selector}
 use Rattle.jx_base.specs.declared.row.Invocation.{Invocation}
 use Rattle.jx_base.specs.declared.row.Row.{Row}
 use Rattle.jx_base.specs.declared.row.Row.TheVariants as row
-use Rattle.jx_base.specs.Basics.{mapped}
 use Rattle.program_model.specs.Types.{element_type}
 use Rattle.class_grammar.specs.Opcodes.{row_at}
 use Rattle.program_model.specs.Instructions.{index_operand, instructions_of}
 use Rattle.program_model.specs.Lookup.{type_of_name}
+use Rattle.std.specs.Option.{option_map}
 
 -- ---- names
 
@@ -116,7 +116,7 @@ use_by _ i = None
 
 -- the use of a constant by an instruction
 unfoldable pub used_by : Instr → Option Used
-used_by i = mapped (λ u. record { use_of = u; index = index_operand i 0 }) (use_by (row_at i.opcode) i)
+used_by i = option_map (λ u. record { use_of = u; index = index_operand i 0 }) (use_by (row_at i.opcode) i)
 
 -- the uses of constants as catch types
 unfoldable pub catch_uses : Code → List Used

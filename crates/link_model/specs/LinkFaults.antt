@@ -15,7 +15,7 @@ use Rattle.jx_base.specs.declared.program.System.{System}
 use Rattle.jx_base.specs.declared.program.Template.{Template}
 use Rattle.jx_base.specs.declared.row.Invocation.{Invocation}
 use Rattle.jx_base.specs.declared.row.Invocation.TheVariants as invocation
-use Rattle.jx_base.specs.Basics.{first_some, and_then, mapped, passes, contains_number, firsts}
+use Rattle.jx_base.specs.Basics.{first_some, passes, contains_number, firsts}
 use Rattle.program_model.specs.Types.{innermost_type, is_number_type}
 use Rattle.program_model.specs.BuiltIn.{built_in_table, throwable_classes, string_class, zero_class, memory_class}
 use Rattle.class_grammar.specs.Flags.{is_static, is_abstract, is_interface_flag}
@@ -23,6 +23,7 @@ use Rattle.program_model.specs.Lookup.{class_at, class_named, method_at, is_inte
 use Rattle.program_model.specs.Plans.{IsPlanInRange}
 use Rattle.link_model.specs.ClassFiles.{constant_in, this_name, super_name, interface_names, class_of_constant, member_of_constant, member_selector, Use, AsWord, AsLong, AsField, AsMethod, AsNew, AsClass, AsArray, Used, uses_of_member}
 use Rattle.link_model.specs.Linking.{outline, found_field, found_method, in_class, linked_system}
+use Rattle.std.specs.Option.{option_and_then, option_map}
 
 -- the kinds of faults, in the order of their numbers
 pub data LinkKind : Type 0 where
@@ -76,7 +77,7 @@ may_extend plan t f name =
 unfoldable pub may_implement : Plan → List ClassFile → Template → List ℕ → Bool
 may_implement plan files t name =
     bytes_eq name (codes "jx/Portal")
-    || passes (λ f. is_interface_flag f.flags) (and_then (listed_place plan t name) (slice_get files))
+    || passes (λ f. is_interface_flag f.flags) (option_and_then (slice_get files) (listed_place plan t name))
 
 -- the template's classes that a class extends or implements itself
 unfoldable pub next_above : Plan → List ClassFile → Template → ℕ → List ℕ
@@ -100,11 +101,11 @@ repeated_after seen (x ∷ xs) = elim (list_any (same_selector x) seen) [ true �
 
 -- the name of the first member that stood before
 unfoldable pub repeated_name : List Member → Option (List ℕ)
-repeated_name members = mapped (λ x. x.name) (repeated_after [] (map member_selector members))
+repeated_name members = option_map (λ x. x.name) (repeated_after [] (map member_selector members))
 
 -- the fault of the first such name
 unfoldable pub named_fault : List ℕ → LinkKind → Option (List ℕ) → Option LinkFault
-named_fault class kind name = mapped (λ n. record { class = class; kind = kind; name = n }) name
+named_fault class kind name = option_map (λ n. record { class = class; kind = kind; name = n }) name
 
 -- the first fault of a class alone, in the order of the tests
 unfoldable pub class_fault : Plan → List ClassFile → Template → ℕ → List ℕ → ClassFile → Option LinkFault
@@ -230,7 +231,7 @@ use_fault s plan t class f u =
     let named : Option (List ℕ) = class_of_constant f k in
     first_fault (
     fault_if (not (has_tag_for u.use_of k && passes_shape named)) class BadConstant (decimal u.index)
-    ∷ and_then named (λ name. member_fault s plan t class u.use_of name (member_of_constant f k)) ∷ []
+    ∷ option_and_then (λ name. member_fault s plan t class u.use_of name (member_of_constant f k)) named ∷ []
     )
   where
     passes_shape : Option (List ℕ) → Bool
@@ -252,7 +253,7 @@ pub record Listing : Type 0 where
 -- the class at a place of the plan
 unfoldable pub listing_at : Plan → List ClassFile → ℕ → Option Listing
 listing_at plan files p =
-    and_then (listed_name plan p) (λ name. mapped (λ f. record { place = p; name = name; file = f }) (slice_get files p))
+    option_and_then (λ name. option_map (λ f. record { place = p; name = name; file = f }) (slice_get files p)) (listed_name plan p)
 
 -- the first fault of a template, by its three walks
 unfoldable pub template_fault : System → Plan → List ClassFile → Template → Option LinkFault
@@ -260,7 +261,7 @@ template_fault s plan files t =
     let listings : List Listing = filter_map (listing_at plan files) t.classes in
     first_fault (
     first_some (λ x. class_fault plan files t x.place x.name x.file) listings
-    ∷ and_then (listing_at plan files t.main) (λ x. main_fault x.name x.file)
+    ∷ option_and_then (λ x. main_fault x.name x.file) (listing_at plan files t.main)
     ∷ first_some (λ x. uses_fault s plan t x.name x.file) listings ∷ []
     )
 

@@ -17,13 +17,14 @@ use Rattle.jx_base.specs.declared.program.Resolved.{Resolved}
 use Rattle.jx_base.specs.declared.program.Resolved.TheVariants as resolved
 use Rattle.jx_base.specs.declared.program.Selector.{Selector}
 use Rattle.jx_base.specs.declared.program.System.{System}
-use Rattle.jx_base.specs.Basics.{first_some, and_then, mapped, passes, or_zero, contains_number}
+use Rattle.jx_base.specs.Basics.{first_some, passes, contains_number}
 use Rattle.program_model.specs.BuiltIn.{built_in_count, built_in_table, array_class}
 use Rattle.program_model.specs.Instructions.{instructions_of}
 use Rattle.class_grammar.specs.Flags.{is_static}
 use Rattle.program_model.specs.Lookup.{class_at, class_named, is_built_in, supers_of, chain_of, same_selector, selector_at}
 use Rattle.program_model.specs.Plans.{first_texts}
 use Rattle.link_model.specs.ClassFiles.{text_in, this_name, super_name, interface_names, class_name_in, selector_in, member_selector, uses_of, arrays_of}
+use Rattle.std.specs.Option.{option_and_then, option_map}
 
 -- ---- classes
 
@@ -33,7 +34,7 @@ class_number plan name = position (bytes_eq name) (map (λ k. k.name) built_in_t
 
 -- the same as an id
 unfoldable pub class_id : Plan → List ℕ → Option ClassId
-class_id plan name = mapped (λ c. record { 0 = c }) (class_number plan name)
+class_id plan name = option_map (λ c. record { 0 = c }) (class_number plan name)
 
 -- a field as class c declares it
 unfoldable pub field_of : ℕ → Member → Field
@@ -155,7 +156,7 @@ unfoldable pub linked_method : List Selector → Source → Method
 linked_method selectors x =
     record {
       class = record { 0 = x.class };
-      selector = record { 0 = or_zero (position (same_selector x.declared.selector) selectors) };
+      selector = record { 0 = unwrap_or (position (same_selector x.declared.selector) selectors) 0 };
       flags = x.declared.flags;
       code = x.code;
       instrs = elim x.code [ None ↦ [] | Some c ↦ instructions_of c.code ];
@@ -179,7 +180,7 @@ is_field x f = bytes_eq f.name x.name && bytes_eq f.descriptor x.descriptor
 
 -- the field of an instance that class c itself declares
 unfoldable pub own_instance_field : Selector → ℕ → Class → Option Resolved
-own_instance_field x c k = mapped (λ i. resolved.Instance (record { 0 = c }) i) (position (λ f. (f.owner.0 == c) && is_field x f) k.fields)
+own_instance_field x c k = option_map (λ i. resolved.Instance (record { 0 = c }) i) (position (λ f. (f.owner.0 == c) && is_field x f) k.fields)
 
 -- how many static fields the classes before class c declare
 unfoldable pub statics_before : System → ℕ → ℕ
@@ -187,11 +188,11 @@ statics_before s c = sum_by (λ k. length k.statics) (take c s.program.classes)
 
 -- the static field that class c itself declares
 unfoldable pub own_static_field : System → Selector → ℕ → Class → Option Resolved
-own_static_field s x c k = mapped (λ i. resolved.Static (record { 0 = c }) (statics_before s c + i)) (position (is_field x) k.statics)
+own_static_field s x c k = option_map (λ i. resolved.Static (record { 0 = c }) (statics_before s c + i)) (position (is_field x) k.statics)
 
 -- the field that class c itself declares
 unfoldable pub own_field : System → Selector → ℕ → Option Resolved
-own_field s x c = and_then (class_at s c) (λ k. elim (own_instance_field x c k) [ Some r ↦ Some r | None ↦ own_static_field s x c k ])
+own_field s x c = option_and_then (λ k. elim (own_instance_field x c k) [ Some r ↦ Some r | None ↦ own_static_field s x c k ]) (class_at s c)
 
 -- a field is sought in the class, in its superinterfaces, then in its super
 unfoldable pub found_field : System → Selector → ℕ → Option Resolved
@@ -213,18 +214,18 @@ found_method s x c = first_some (own_method s x) (chain_of s c ++ supers_of s c)
 
 -- what the search gives in the class of that name
 unfoldable pub in_class : {A : Type 0} → System → List ℕ → (ℕ → Option A) → Option A
-in_class s name search = and_then (class_named s name) search
+in_class s name search = option_and_then search (class_named s name)
 
 -- what a constant means in the outline of the system
 unfoldable pub meaning_of : System → ClassFile → Constant → Option Resolved
 meaning_of s f (constant.Integer n) = Some (resolved.Int n)
 meaning_of s f (constant.Long n) = Some (resolved.Long n)
 meaning_of s f (constant.Str n) = Some (resolved.Str (text_in f n))
-meaning_of s f (constant.Class n) = mapped (λ c. resolved.Class (record { 0 = c })) (class_named s (text_in f n))
+meaning_of s f (constant.Class n) = option_map (λ c. resolved.Class (record { 0 = c })) (class_named s (text_in f n))
 meaning_of s f (constant.Field c x) = in_class s (class_name_in f c) (found_field s (selector_in f x))
-meaning_of s f (constant.Method c x) = mapped (λ m. resolved.Method m) (in_class s (class_name_in f c) (found_method s (selector_in f x)))
+meaning_of s f (constant.Method c x) = option_map (λ m. resolved.Method m) (in_class s (class_name_in f c) (found_method s (selector_in f x)))
 meaning_of s f (constant.InterfaceMethod c x) =
-    mapped (λ m. resolved.Method m) (in_class s (class_name_in f c) (found_method s (selector_in f x)))
+    option_map (λ m. resolved.Method m) (in_class s (class_name_in f c) (found_method s (selector_in f x)))
 meaning_of s f _ = None
 
 -- what these constants mean, the first of which has index i: unused where no instruction and no catch type uses it
@@ -247,7 +248,7 @@ with_meanings s files c (k ∷ classes) = meant ∷ with_meanings s files (c + 1
     of_file f = record k { constants = meanings_of s f }
 
     meant : Class
-    meant = if is_built_in c then k else unwrap_or (mapped of_file (slice_get files (c - built_in_count))) k
+    meant = if is_built_in c then k else unwrap_or (option_map of_file (slice_get files (c - built_in_count))) k
 
 -- the system that a plan and its class files link to, where linking has no fault
 unfoldable pub linked_system : Plan → List ClassFile → System

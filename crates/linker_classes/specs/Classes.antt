@@ -20,10 +20,10 @@ use Rattle.link_model.specs.ClassFiles.{text_in, class_name_in, selector_in, thi
 use Rattle.program_model.specs.Instructions.{index_operand}
 use Rattle.link_model.specs.Linking.{declared_of, in_class, own_fields, own_method}
 use Rattle.class_grammar.specs.Flags.{is_static}
-use Rattle.jx_base.specs.Basics.{mapped}
 use Rattle.linker_classes.specs.FirstPlan.{first_plan}
 use Rattle.linker_classes.specs.declared.outline.Outline.{Outline}
 use Rattle.linker_classes.specs.declared.constants.TheConstants.{LOAD_CONSTANT, INVOKE_STATIC}
+use Rattle.std.specs.Option.{option_map}
 
 -- the system of an outline
 abbrev pub system_of : Outline → System
@@ -35,7 +35,7 @@ class_number classes name = position (λ k. bytes_eq k.name name) classes
 
 -- the same as an id
 abbrev pub class_id : List Class → List ℕ → Option ClassId
-class_id classes name = mapped (λ c. record { 0 = c }) (class_number classes name)
+class_id classes name = option_map (λ c. record { 0 = c }) (class_number classes name)
 
 -- a name with a descriptor
 abbrev pub selector : List ℕ → List ℕ → Selector
@@ -48,7 +48,7 @@ named_method s name x = in_class s name (own_method s x)
 -- what a String means, and a method that its class itself declares; no other constant is linked by now
 abbrev pub meaning : System → ClassFile → Constant → Resolved
 meaning s f (constant.Str n) = resolved.Str (text_in f n)
-meaning s f (constant.Method c x) = unwrap_or (mapped (λ m. resolved.Method m) (named_method s (class_name_in f c) (selector_in f x))) resolved.Unused
+meaning s f (constant.Method c x) = unwrap_or (option_map (λ m. resolved.Method m) (named_method s (class_name_in f c) (selector_in f x))) resolved.Unused
 meaning s f _ = resolved.Unused
 
 -- whether the instruction loads the constant at the index or calls it

@@ -37,7 +37,7 @@ fn is_used(instrs: &[Instr], index: usize) -> bool
     instrs.iter().any(|instr| uses_constant(instr, index))
 }
 
-#[tactic(auto, unfolding(link_model::specs::Linking::own_method, link_model::specs::Linking::in_class, program_model::specs::Lookup::class_named, jx_base::specs::Basics::and_then, jx_base::specs::Basics::mapped))]
+#[tactic(auto, unfolding(link_model::specs::Linking::own_method, link_model::specs::Linking::in_class, program_model::specs::Lookup::class_named))]
 fn meaning(
     alloc: Global,
     outline: &Outline,

@@ -18,7 +18,6 @@ pub fn class_number(classes: &[Class], name: &[u16]) -> Option<usize>
 }
 
 /// The same as an id.
-#[tactic(auto, unfolding(jx_base::specs::Basics::mapped))]
 pub fn class_id(classes: &[Class], name: &[u16]) -> Option<ClassId>
     requires { length classes.now < 2 ^ 32 }
     ensures { result ≡ class_id classes.now name.now }
@@ -56,7 +55,7 @@ pub fn own_method(
 }
 
 /// The same in the class of that name.
-#[tactic(auto, unfolding(link_model::specs::Linking::in_class, program_model::specs::Lookup::class_named, jx_base::specs::Basics::and_then))]
+#[tactic(auto, unfolding(link_model::specs::Linking::in_class, program_model::specs::Lookup::class_named))]
 pub fn named_method(
     outline: &Outline,
     class: &[u16],

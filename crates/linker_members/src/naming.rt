@@ -1,9 +1,8 @@
 //! The selectors of a linked program.
-ghost use Rattle.std.specs.Prelude.{◌≡◌, ◌^◌, ◌<◌, IfOk, IfSome, length, map, position};
+ghost use Rattle.std.specs.Prelude.{◌≡◌, ◌^◌, ◌<◌, IfOk, IfSome, length, map, position, unwrap_or};
 ghost use Rattle.std.specs.List.{list_any};
 ghost use Rattle.link_model.specs.Linking.{linked_selectors};
 ghost use Rattle.program_model.specs.Lookup.{same_selector};
-ghost use Rattle.jx_base.specs.Basics.{or_zero};
 ghost use Rattle.linker_members.specs.Members.{source_of};
 
 use crate::copies::copy_of_selector;
@@ -51,10 +50,9 @@ fn place_of(selectors: &[Selector], selector: &Selector) -> Option<usize>
 }
 
 /// The place of the selector among the selectors.
-#[tactic(auto, unfolding(jx_base::specs::Basics::or_zero))]
 pub fn number_of(selectors: &[Selector], selector: &Selector) -> MethodId
     requires { length selectors.now < 2 ^ 32 }
-    ensures { result.0 ≡ or_zero (position (same_selector selector.now) selectors.now) }
+    ensures { result.0 ≡ unwrap_or (position (same_selector selector.now) selectors.now) 0 }
 {
     match place_of(selectors, selector) {
         Some(place) => MethodId(place as u32),

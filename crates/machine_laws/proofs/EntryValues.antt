@@ -21,7 +21,6 @@ use Rattle.jx_base.specs.declared.program.System.{System}
 use Rattle.jx_base.specs.declared.value.Parcel.{Parcel}
 use Rattle.jx_base.specs.declared.value.Value.{Value}
 use Rattle.jx_base.specs.declared.value.Value.TheVariants as value
-use Rattle.jx_base.specs.Basics.{and_then, mapped, or_zero}
 use Rattle.program_model.specs.Types.{signature_of, parameter_types}
 use Rattle.program_model.specs.BuiltIn.{string_class, built_in_count, built_in_table, throwable_class, copy_exception, ended_exception, opened_built_in}
 use Rattle.machine_model.specs.BuiltInMethods.{BuiltInOutcome, Gives, Performs, Raises, HasNoRoom, Unfit, built_in_outcome, unit_of}
@@ -45,6 +44,7 @@ use Rattle.machine_laws.proofs.ObjectValues.{any_native, NativeFits, selected_is
 use Rattle.machine_laws.proofs.StateValues.{bare, set_thread, set_store, less_fuel, later_frames, set_frames, set_stage, throw_in, raise_in, begin_in, Fs}
 use Rattle.machine_laws.proofs.Stores.{IsLater, AreCellsOf, new_object_in, with_same_objects, grows_to, threads_grow}
 use Rattle.machine_laws.proofs.Unpacking.{IsUnpacked, unpacked_in}
+use Rattle.std.specs.Option.{option_and_then, option_map, unwrap_or}
 
 loosely : (b c : Bool) → (b || false) ≡ true → (b || c) ≡ true
 loosely true c h = refl
@@ -111,28 +111,28 @@ module _ (s : System) (past : Past) (z : IsSound s) where
           rw e (set_frames s past z st t _ _ h (record { method = j.0.method; count = j.0.count; room = j.0.room; place = z.goes_on f (frame_behind s (with_result v (drop (taken_at s f) f.stack.values)) f) j.0.place refl refl; locals = j.0.locals; stack = with_result_in st.store v (drop (taken_at s f) f.stack.values) k (all_drop (IsValueIn past st.store) (taken_at s f) f.stack.values j.0.stack) }, j.1))
 
   -- a class by its name, or java/lang/Object
-  pub class_or_object : (name : List ℕ) → IsClass s (or_zero (class_named s name))
-  unfolding or_zero opened_built_in
+  pub class_or_object : (name : List ℕ) → IsClass s (unwrap_or (class_named s name) 0)
+  unfolding opened_built_in
   class_or_object name = by (class_named s name) refl
     where
-      by : (o : Option ℕ) → class_named s name ≡ o → IsClass s (or_zero o)
+      by : (o : Option ℕ) → class_named s name ≡ o → IsClass s (unwrap_or o 0)
       by None e = exception 0 (omega arith) refl
       by (Some c) e = named_class s name c e
 
-  memory_array : or_zero (class_named s (codes "[Ljx/Memory;")) ≢ string_class
-  unfolding or_zero opened_built_in
+  memory_array : unwrap_or (class_named s (codes "[Ljx/Memory;")) 0 ≢ string_class
+  unfolding opened_built_in
   memory_array = by (class_named s (codes "[Ljx/Memory;")) refl
     where
-      by : (o : Option ℕ) → class_named s (codes "[Ljx/Memory;") ≡ o → or_zero o ≢ string_class
+      by : (o : Option ℕ) → class_named s (codes "[Ljx/Memory;") ≡ o → unwrap_or o 0 ≢ string_class
       by None e q = omega (arith, q)
       by (Some c) e q = array_is_no_string s (codes "Ljx/Memory;") c z e q
 
   split_in : (st : State) (t : ℕ) (x : Thread) (halves : List Value) → IsStateIn s past st → Fs s past z st.store x.frames → ((c : ℕ) → c ≢ string_class → AreCellsOf past st.store c halves) → IsStateIn s past (after_split s st t x halves)
   unfolding after_split with_store
-  split_in st t x halves h i k = by (new_object st.store (or_zero (class_named s (codes "[Ljx/Memory;"))) halves) refl
+  split_in st t x halves h i k = by (new_object st.store (unwrap_or (class_named s (codes "[Ljx/Memory;")) 0) halves) refl
     where
       c : ℕ
-      c = or_zero (class_named s (codes "[Ljx/Memory;"))
+      c = unwrap_or (class_named s (codes "[Ljx/Memory;")) 0
 
       by : (o : Option (Store × ℕ)) → new_object st.store c halves ≡ o →
           IsStateIn s past (elim o as (λ _. State) [ None ↦ after_throw s st t x 0 | Some y ↦ after_result s (with_store st y.0) t x (Some (value.Ref y.1)) ])
@@ -186,8 +186,8 @@ module _ (s : System) (past : Past) (z : IsSound s) where
   selected_in : (store : Store) (k : ServiceId) (method : MethodId) (y : ℕ × ℕ) → IsStoreIn s past store → selected_at s store k method ≡ Some y → IsSelected store method.0 y.0 y.1
   unfolding selected_at
   selected_in store k method y h e =
-      let a = then_some (service_object store k) (λ r. and_then (class_of_object store r) (λ c. mapped (λ m. (m, r)) (selected_method s c method.0))) y e in
-      let b = then_some (class_of_object store a.0) (λ c. mapped (λ m. (m, a.0)) (selected_method s c method.0)) y a.2 in
+      let a = then_some (service_object store k) (λ r. option_and_then (λ c. option_map (λ m. (m, r)) (selected_method s c method.0)) (class_of_object store r)) y e in
+      let b = then_some (class_of_object store a.0) (λ c. option_map (λ m. (m, a.0)) (selected_method s c method.0)) y a.2 in
       let d = mapped_some (λ m. (m, a.0)) (selected_method s b.0 method.0) y b.2 in
       subst (λ (y : ℕ × ℕ). IsSelected store method.0 y.0 y.1) d.2 (record { object = service_in store k a.0 h a.1; class = b.0; of = b.1; method = d.1 })
 
@@ -318,13 +318,13 @@ module _ (s : System) (past : Past) (z : IsSound s) where
   value_object store _ h i = h.first
 
   exported_in : (store : Store) (x : Thread) → IsStoreIn s past store → Fs s past z store x.frames → IsObject store (exported_object x)
-  unfolding exported_object or_zero
-  exported_in store x h i = by (and_then (slice_get x.frames 0) (λ f. mapped object_of_value (slice_get f.stack.values 2))) refl
+  unfolding exported_object
+  exported_in store x h i = by (option_and_then (λ f. option_map object_of_value (slice_get f.stack.values 2)) (slice_get x.frames 0)) refl
     where
-      by : (o : Option ℕ) → and_then (slice_get x.frames 0) (λ f. mapped object_of_value (slice_get f.stack.values 2)) ≡ o → IsObject store (or_zero o)
+      by : (o : Option ℕ) → option_and_then (λ f. option_map object_of_value (slice_get f.stack.values 2)) (slice_get x.frames 0) ≡ o → IsObject store (unwrap_or o 0)
       by None e = h.first
       by (Some r) e =
-          let f = then_some (slice_get x.frames 0) (λ f. mapped object_of_value (slice_get f.stack.values 2)) r e in
+          let f = then_some (slice_get x.frames 0) (λ f. option_map object_of_value (slice_get f.stack.values 2)) r e in
           let v = mapped_some object_of_value (slice_get f.0.stack.values 2) r f.2 in
           subst (IsObject store) v.2 (value_object store v.0 h (all_get (IsValueIn past store) f.0.stack.values 2 v.0 v.1 (all_get (IsFrameIn s past store) x.frames 0 f.0 f.1 i).stack))
 

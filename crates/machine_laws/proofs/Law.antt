@@ -12,7 +12,6 @@ use Rattle.jx_base.specs.declared.ids.ClassId.{ClassId}
 use Rattle.jx_base.specs.declared.ids.ServiceId.{ServiceId}
 use Rattle.jx_base.specs.declared.program.System.{System}
 use Rattle.jx_base.specs.declared.program.Template.{Template}
-use Rattle.jx_base.specs.Basics.{and_then, mapped}
 use Rattle.program_model.specs.BuiltIn.{opened_built_in}
 use Rattle.machine_model.specs.BuiltInMethods.{unit_of}
 use Rattle.jx_base.specs.Histories.{Past, own_entries, is_own}
@@ -35,11 +34,12 @@ use Rattle.machine_laws.proofs.EntryValues.{entry_in, class_or_object}
 use Rattle.machine_laws.proofs.NumericValues.{built_in_class}
 use Rattle.machine_laws.proofs.StateValues.{at_act_in, act_in_in, finish_in, IsNextIn}
 use Rattle.machine_laws.proofs.Stores.{default_in, state_of_past}
+use Rattle.std.specs.Option.{option_and_then, option_map}
 
 -- ---- the start
 
 first_in : (s : System) (past : Past) (t : Template) → IsSound s → t.heap ≤ 131072 → IsStoreIn s past (first_store s t)
-unfolding first_store first_objects object_of class_of_object mapped opened_built_in unit_of
+unfolding first_store first_objects object_of class_of_object opened_built_in unit_of
 first_in s past t z h = record {
   first = refl;
   second = refl;
@@ -73,7 +73,7 @@ is_made iface k service c = refl
 
 -- an export that made a service made it with its interface
 pub exported : (s : System) (e : Entry) (past : Past) (d : ℕ) (a : Act) (r : Reply) → r ≡ reply_to s past d a → e.act ≡ a → e.reply ≡ r → IsExportedIn (e ∷ past) a r
-unfolding reply_to new_service ◌refuses◌else◌ interface_of export_of and_then is_export
+unfolding reply_to new_service ◌refuses◌else◌ interface_of export_of is_export
 exported s e past d (act.Export iface k) (reply.Service service c) q f g = by (nat_le (service_limit s) (services_made past)) q
   where
     both_are : exported_interface e.act e.reply ≡ Some iface
@@ -83,7 +83,7 @@ exported s e past d (act.Export iface k) (reply.Service service c) q f g = by (n
     by true q = cc
     by false q =
         let n : service ≡ record { 0 = services_made past + 1 } = cc in
-        ap (λ (o : Option Entry). and_then o (λ x. exported_interface x.act x.reply)) (nth_new is_export e past service.0 (ap is_some both_are) (ap (λ (k : ServiceId). k.0) n)) ∙ both_are
+        ap (λ (o : Option Entry). option_and_then (λ x. exported_interface x.act x.reply) o) (nth_new is_export e past service.0 (ap is_some both_are) (ap (λ (k : ServiceId). k.0) n)) ∙ both_are
 exported s e past d _ r q f g = tt
 
 -- ---- the law

@@ -19,7 +19,7 @@ use Rattle.jx_base.specs.declared.program.Selector.{Selector}
 use Rattle.jx_base.specs.declared.program.System.{System}
 use Rattle.jx_base.specs.declared.value.Value.{Value}
 use Rattle.jx_base.specs.declared.value.Value.TheVariants as value
-use Rattle.jx_base.specs.Basics.{and_then, passes, not_below_zero}
+use Rattle.jx_base.specs.Basics.{passes, not_below_zero}
 use Rattle.program_model.specs.BuiltIn.{object_class, string_class, builder_class, throwable_class, portal_class, zero_class, memory_class, null_pointer_exception, string_index_exception, range_exception, class_cast_exception, opened_built_in}
 use Rattle.jx_base.specs.Histories.{Past}
 use Rattle.program_model.specs.Limits.{thread_limit}
@@ -39,6 +39,7 @@ use Rattle.machine_laws.proofs.Lists.{all_append, all_get, all_map, all_found}
 use Rattle.machine_laws.proofs.NumericValues.{then_some, built_in_class}
 use Rattle.machine_laws.proofs.Ranges.{low_char_is, int_is_long}
 use Rattle.machine_laws.proofs.Stores.{IsLater, later_itself, later_on, IsMade, AreCellsOf, new_object_in, with_cell_in, cells_in, cells_small, cells_units, cells_text, object_there}
+use Rattle.std.specs.Option.{option_and_then}
 
 -- units of sixteen bits
 abbrev pub Units : List ℕ → Type 0
@@ -529,9 +530,9 @@ module _ (s : System) (past : Past) (store : Store) (z : IsSound s) (h : IsStore
 
   export_of_in : (v : Value) (name : List ℕ) (n : ℤ) → is_thread_count n ≡ true → N (export_of s store v name n)
   unfolding export_of
-  export_of_in (value.Ref r) name n e = by (and_then (class_of_object store r) (λ c. interface_named s c name)) refl
+  export_of_in (value.Ref r) name n e = by (option_and_then (λ c. interface_named s c name) (class_of_object store r)) refl
     where
-      by : (o : Option ℕ) → and_then (class_of_object store r) (λ c. interface_named s c name) ≡ o →
+      by : (o : Option ℕ) → option_and_then (λ c. interface_named s c name) (class_of_object store r) ≡ o →
           N (elim o as (λ _. BuiltInOutcome) [ None ↦ Raises class_cast_exception | Some i ↦ Performs (act.Export (record { 0 = i }) (not_below_zero n)) ])
       by None q = cast_class
       by (Some i) q =
@@ -737,9 +738,9 @@ module _ (s : System) (past : Past) (store : Store) (z : IsSound s) (h : IsStore
   -- a built-in method of the system, with arguments that fit its descriptor
   pub native_in : (k : Method) (args : List Value) → AllByRecursion V args → ((x : Selector) → selector_at s k.selector.0 ≡ Some x → Fits s store k.class.0 (parameter_types x.descriptor) args) → N (built_in_outcome s store k args)
   unfolding built_in_outcome is_of
-  native_in k args i f = by (and_then (selector_at s k.selector.0) (λ x. find (is_of x) (effects_of k.class.0))) refl
+  native_in k args i f = by (option_and_then (λ x. find (is_of x) (effects_of k.class.0)) (selector_at s k.selector.0)) refl
     where
-      by : (o : Option BuiltInMethod) → and_then (selector_at s k.selector.0) (λ x. find (is_of x) (effects_of k.class.0)) ≡ o → N (elim o as (λ _. BuiltInOutcome) [ None ↦ Unfit | Some b ↦ b.effect s store args ])
+      by : (o : Option BuiltInMethod) → option_and_then (λ x. find (is_of x) (effects_of k.class.0)) (selector_at s k.selector.0) ≡ o → N (elim o as (λ _. BuiltInOutcome) [ None ↦ Unfit | Some b ↦ b.effect s store args ])
       by None e = tt
       by (Some m) e =
           let x = then_some (selector_at s k.selector.0) (λ x. find (is_of x) (effects_of k.class.0)) m e in

@@ -24,13 +24,12 @@ use Rattle.jx_base.specs.declared.row.Conversion.TheVariants as conversion
 use Rattle.jx_base.specs.declared.row.Comparison.{Comparison}
 use Rattle.jx_base.specs.declared.value.Value.{Value}
 use Rattle.jx_base.specs.declared.value.Value.TheVariants as value
-use Rattle.jx_base.specs.Basics.{and_then, mapped}
 use Rattle.program_model.specs.Arithmetic.{operation_result, negation, quotient_or_none, int_shift_result, long_shift_result, low_bits, low_char, is_met, order_of}
 use Rattle.program_model.specs.BuiltIn.{built_in_count, built_in_table, arithmetic_exception, opened_built_in}
 use Rattle.jx_base.specs.Histories.{Past}
 use Rattle.program_model.specs.Instructions.{operand, index_operand}
 use Rattle.program_model.specs.Lookup.{constant_at}
-use Rattle.machine_model.specs.NumericRows.{Locals, Stack, NumericOutcome, depth_of, slots_of, as_kind, as_reference, int_of, long_of, top, top_int, top_long, top_reference, single, double, group_of, given, leaves, branches, local_of, set_local, with_local, place_of, load_row, store_row, discard_row, copy_row, swap_row, on_ints, on_longs, unless_by_zero, int_divide_row, long_divide_row, long_shift_row, negate_row, increment_row, convert_row, is_wanted, is_same, is_null, if_zero_row, if_ints_row, if_same_row, if_null_row, table_row, lookup_row, long_constant, moving_row, arithmetic_row, branching_row, or_else, numeric_row}
+use Rattle.machine_model.specs.NumericRows.{Locals, Stack, NumericOutcome, depth_of, slots_of, as_kind, as_reference, int_of, long_of, top, top_int, top_long, top_reference, single, double, group_of, given, leaves, branches, local_of, set_local, with_local, place_of, load_row, store_row, discard_row, copy_row, swap_row, on_ints, on_longs, unless_by_zero, int_divide_row, long_divide_row, long_shift_row, negate_row, increment_row, convert_row, is_wanted, is_same, is_null, if_zero_row, if_ints_row, if_same_row, if_null_row, table_row, lookup_row, long_constant, moving_row, arithmetic_row, branching_row, outcome_or, numeric_row}
 use Rattle.machine_model.specs.NumericRows.{NumericOutcome as numeric}
 use Rattle.machine_model.specs.State.{Store}
 use Rattle.jx_model.specs.WellMade.{IsClass}
@@ -40,16 +39,15 @@ use Rattle.machine_laws.specs.Values.{IsValueIn, IsValueInSome}
 use Rattle.machine_laws.specs.Sound.{IsSound, IsResolvedIn}
 use Rattle.machine_laws.proofs.Lists.{length_set, all_append, all_drop, all_get, all_set}
 use Rattle.machine_laws.proofs.Ranges.{operation_fits, negation_fits, order_fits, int_is_long, quotient_fits, int_shift_fits, long_shift_fits, low_bits_32, low_bits_8, low_bits_16, low_char_fits}
+use Rattle.std.specs.Option.{option_and_then, option_map}
 
 -- ---- options and kinds
 
-pub then_some : {A B : Type 0} (o : Option A) (f : A → Option B) (y : B) → and_then o f ≡ Some y → (x : A) × (o ≡ Some x) × (f x ≡ Some y)
-unfolding and_then
+pub then_some : {A B : Type 0} (o : Option A) (f : A → Option B) (y : B) → option_and_then f o ≡ Some y → (x : A) × (o ≡ Some x) × (f x ≡ Some y)
 then_some None f y h = cc
 then_some (Some x) f y h = (x, refl, h)
 
-pub mapped_some : {A B : Type 0} (f : A → B) (o : Option A) (y : B) → mapped f o ≡ Some y → (x : A) × (o ≡ Some x) × (f x ≡ y)
-unfolding mapped
+pub mapped_some : {A B : Type 0} (f : A → B) (o : Option A) (y : B) → option_map f o ≡ Some y → (x : A) × (o ≡ Some x) × (f x ≡ y)
 mapped_some f None y h = cc
 mapped_some f (Some x) y h = let q : f x ≡ y = cc in (x, refl, q)
 
@@ -190,7 +188,7 @@ module _ (s : System) (past : Past) (store : Store) (size : ℕ) where
   unfolding double
   double_in below (value.Long n) g b h e = let q : value.Long n ∷ [] ≡ g = cc in subst Vs q (h, tt)
   double_in below v g b h e =
-      let x = mapped_some (λ others. v ∷ others) (and_then (top below) single) g e in
+      let x = mapped_some (λ others. v ∷ others) (option_and_then single (top below)) g e in
       let y = then_some (top below) single x.0 x.1 in
       subst Vs x.2 (h, single_in y.0 x.0 (top_in below y.0 b y.1) y.2)
 
@@ -237,13 +235,13 @@ module _ (s : System) (past : Past) (store : Store) (size : ℕ) where
 
   load_in : (most : ℕ) (k : Kind) (n : ℕ) (l : Locals) (st : Stack) → Ls l → Vs st → In (load_row most k n l st)
   unfolding load_row
-  load_in most k n l st h i = given_in (and_then (local_of l n) (as_kind k)) (λ v. leaves most l (v ∷ st)) (λ v e.
+  load_in most k n l st h i = given_in (option_and_then (as_kind k) (local_of l n)) (λ v. leaves most l (v ∷ st)) (λ v e.
       let x = then_some (local_of l n) (as_kind k) v e in
       leaves_in most l (v ∷ st) h (subst (IsValueIn past store) (kind_same k x.0 v x.2) (local_in l n x.0 h x.1), i))
 
   store_in : (k : Kind) (n : ℕ) (l : Locals) (st : Stack) → Ls l → Vs st → In (store_row k n l st)
   unfolding store_row
-  store_in k n l st h i = given_in (and_then (top st) (as_kind k)) (λ v. given (with_local l n v) (λ new. numeric.Next new (drop 1 st))) (λ v e.
+  store_in k n l st h i = given_in (option_and_then (as_kind k) (top st)) (λ v. given (with_local l n v) (λ new. numeric.Next new (drop 1 st))) (λ v e.
       given_in (with_local l n v) (λ new. numeric.Next new (drop 1 st)) (λ new q.
       let x = then_some (top st) (as_kind k) v e in
       (with_local_in l n v new h (subst (IsValueIn past store) (kind_same k x.0 v x.2) (top_in st x.0 i x.1)) q, rest_in 1 st i)))
@@ -323,7 +321,7 @@ module _ (s : System) (past : Past) (store : Store) (size : ℕ) where
 
   increment_in : (n : ℕ) (more : ℤ) (l : Locals) (st : Stack) → Ls l → Vs st → In (increment_row n more l st)
   unfolding increment_row
-  increment_in n more l st h i = given_in (and_then (local_of l n) int_of) (λ k. numeric.Next (slice_set l n (Some (value.Int (int_wrap w32 (k +ℤ more))))) st) (λ k e.
+  increment_in n more l st h i = given_in (option_and_then int_of (local_of l n)) (λ k. numeric.Next (slice_set l n (Some (value.Int (int_wrap w32 (k +ℤ more))))) st) (λ k e.
       ((all_set (IsValueInSome past store) l n (Some (value.Int (int_wrap w32 (k +ℤ more)))) (SFits-int_wrap w32 (k +ℤ more)) h.0, length_set l n (Some (value.Int (int_wrap w32 (k +ℤ more)))) ∙ h.1), i))
 
   convert_in : (most : ℕ) (c : Conversion) (l : Locals) (st : Stack) → Ls l → Vs st → In (convert_row most c l st)
@@ -409,13 +407,13 @@ module _ (s : System) (past : Past) (store : Store) (size : ℕ) where
   branching_in row.LookupSwitch i l st h k = lookup_in i l st h k
   branching_in _ i l st h k = tt
 
-  or_else_in : (o other : NumericOutcome) → In o → In other → In (or_else o other)
-  unfolding or_else
-  or_else_in (numeric.Next l k) other h i = h
-  or_else_in (numeric.Jump to l k) other h i = h
-  or_else_in (numeric.Raise c) other h i = h
-  or_else_in numeric.BadCode other h i = tt
-  or_else_in numeric.NotMine other h i = i
+  outcome_or_in : (o other : NumericOutcome) → In o → In other → In (outcome_or o other)
+  unfolding outcome_or
+  outcome_or_in (numeric.Next l k) other h i = h
+  outcome_or_in (numeric.Jump to l k) other h i = h
+  outcome_or_in (numeric.Raise c) other h i = h
+  outcome_or_in numeric.BadCode other h i = tt
+  outcome_or_in numeric.NotMine other h i = i
 
   arithmetic_class : IsSound s → IsClass s arithmetic_exception
   unfolding opened_built_in
@@ -425,7 +423,7 @@ module _ (s : System) (past : Past) (store : Store) (size : ℕ) where
   pub numeric_in : (c most : ℕ) (i : Instr) (l : Locals) (st : Stack) → IsSound s → FitsSigned w32 (operand i 0) → Ls l → Vs st → In (numeric_row s c most i l st)
   unfolding numeric_row
   numeric_in c most i l st z o h k =
-      or_else_in (moving_row s c most (row_at i.opcode) i l st) (or_else (arithmetic_row most (row_at i.opcode) i l st) (branching_row (row_at i.opcode) i l st))
+      outcome_or_in (moving_row s c most (row_at i.opcode) i l st) (outcome_or (arithmetic_row most (row_at i.opcode) i l st) (branching_row (row_at i.opcode) i l st))
       (moving_in c most (row_at i.opcode) i l st z (table_pushes i.opcode) o h k)
-      (or_else_in (arithmetic_row most (row_at i.opcode) i l st) (branching_row (row_at i.opcode) i l st)
+      (outcome_or_in (arithmetic_row most (row_at i.opcode) i l st) (branching_row (row_at i.opcode) i l st)
       (arithmetic_in most (row_at i.opcode) i l st (arithmetic_class z) h k) (branching_in (row_at i.opcode) i l st h k))

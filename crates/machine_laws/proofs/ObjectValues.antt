@@ -34,7 +34,7 @@ use Rattle.jx_base.specs.declared.row.Row.TheVariants as row
 use Rattle.jx_base.specs.declared.value.Parcel.{Parcel}
 use Rattle.jx_base.specs.declared.value.Value.{Value}
 use Rattle.jx_base.specs.declared.value.Value.TheVariants as value
-use Rattle.jx_base.specs.Basics.{and_then, mapped, passes, not_below_zero, first_some}
+use Rattle.jx_base.specs.Basics.{passes, not_below_zero, first_some}
 use Rattle.program_model.specs.Types.{signature_of, parameter_types, is_void, cut_to_type, element_type}
 use Rattle.program_model.specs.Arithmetic.{low_bits, low_char}
 use Rattle.program_model.specs.BuiltIn.{built_in_count, built_in_table, string_class, builder_class, throwable_class, portal_class, null_pointer_exception, array_index_exception, negative_size_exception, class_cast_exception, array_store_exception, stack_overflow_error, copy_exception, opened_built_in}
@@ -53,13 +53,13 @@ use Rattle.machine_laws.specs.Sound.{IsSound, IsResolvedIn}
 use Rattle.machine_laws.proofs.Lists.{all_append, all_drop, all_take, all_reverse, all_get, all_set, all_replicate, all_found}
 use Rattle.machine_laws.proofs.NumericValues.{then_some, mapped_some, kind_same, built_in_class, with_local_in, AreLocals}
 use Rattle.machine_model.specs.Conditions.{local_count}
-use Rattle.jx_base.specs.Basics.{or_zero}
 use Rattle.machine_model.specs.State.{stack_limit}
 use Rattle.std.proofs.lemmas.List.{length-replicate}
 use Rattle.machine_laws.proofs.Ranges.{low_bits_8, low_bits_16, low_char_fits}
 use Rattle.machine_laws.proofs.Stores.{IsLater, later_itself, later_on, IsMade, AreCellsOf, MayStand, new_object_in, new_array_in, default_in, default_text, default_cells_in, with_cell_in, with_same_objects, cells_in, cells_small, object_there, grows_to, values_grow, frames_grow}
 use Rattle.machine_laws.proofs.Packing.{packed_in}
 use Rattle.machine_laws.proofs.Natives.{Units, text_cells_in, named_class, native_in, IsNativeIn, Fits, string_fits}
+use Rattle.std.specs.Option.{option_and_then, option_map, unwrap_or}
 
 -- what a row on objects comes to, from a store
 abbrev pub IsRowIn : System → Past → Store → ObjectOutcome → Type 0
@@ -107,12 +107,12 @@ kept_text store type (value.Mem m) h = h
 
 -- a String has no elements, and neither has a StringBuilder
 no_component : (s : System) (store : Store) (r : ℕ) (type : List ℕ) → IsSound s → component_of s store r ≡ Some type → (class_of_object store r ≢ Some string_class) × (class_of_object store r ≢ Some builder_class)
-unfolding component_of opened_built_in and_then
+unfolding component_of opened_built_in
 no_component s store r type z h = (
-  λ e. let q : and_then (class_at s 1) (λ k. k.component) ≡ Some type = subst (λ (o : Option ℕ). and_then (and_then o (class_at s)) (λ k. k.component) ≡ Some type) e h in
-      let p : None ≡ Some type = subst (λ (o : Option Class). and_then o (λ k. k.component) ≡ Some type) (z.built_in 1 (omega arith)) q in cc,
-  λ e. let q : and_then (class_at s 2) (λ k. k.component) ≡ Some type = subst (λ (o : Option ℕ). and_then (and_then o (class_at s)) (λ k. k.component) ≡ Some type) e h in
-      let p : None ≡ Some type = subst (λ (o : Option Class). and_then o (λ k. k.component) ≡ Some type) (z.built_in 2 (omega arith)) q in cc,
+  λ e. let q : option_and_then (λ k. k.component) (class_at s 1) ≡ Some type = subst (λ (o : Option ℕ). option_and_then (λ k. k.component) (option_and_then (class_at s) o) ≡ Some type) e h in
+      let p : None ≡ Some type = subst (λ (o : Option Class). option_and_then (λ k. k.component) o ≡ Some type) (z.built_in 1 (omega arith)) q in cc,
+  λ e. let q : option_and_then (λ k. k.component) (class_at s 2) ≡ Some type = subst (λ (o : Option ℕ). option_and_then (λ k. k.component) (option_and_then (class_at s) o) ≡ Some type) e h in
+      let p : None ≡ Some type = subst (λ (o : Option Class). option_and_then (λ k. k.component) o ≡ Some type) (z.built_in 2 (omega arith)) q in cc,
 )
 
 -- a class that has a name has that name
@@ -226,7 +226,7 @@ module _ (s : System) (past : Past) (z : IsSound s) where
   }
 
   -- one array alone: its class is that of the name
-  alone_in : (store : Store) (name : List ℕ) (n : ℕ) (o : Option (Store × ℕ)) → ((c : ℕ) → class_named s name ≡ Some c → c ≢ string_class) → IsStoreIn s past store → and_then (class_named s name) (λ c. new_array store c n (default_of (drop 1 name))) ≡ o →
+  alone_in : (store : Store) (name : List ℕ) (n : ℕ) (o : Option (Store × ℕ)) → ((c : ℕ) → class_named s name ≡ Some c → c ≢ string_class) → IsStoreIn s past store → option_and_then (λ c. new_array store c n (default_of (drop 1 name))) (class_named s name) ≡ o →
       IsMakingIn s past store (making_of store o) × ((r : ℕ) → (making_of store o).array ≡ Some r → (c : ℕ) × (class_named s name ≡ Some c) × (class_of_object (making_of store o).store r ≡ Some c))
   unfolding making_of
   alone_in store name n None a h e = (record { later = later_itself s past store h; array = λ r q. cc }, λ r q. cc)
@@ -256,7 +256,7 @@ module _ (s : System) (past : Past) (z : IsSound s) where
     where
       by : (b : Bool) → (u == 91) ≡ b → length (n ∷ []) ≤ (elim b as (λ _. ℕ) [ true ↦ suc (dimensions_of name) | false ↦ 0 ]) → IsMakingIn s past store (nested_arrays s (n ∷ []) (u ∷ name) store)
       by false e l = absurd (omega (arith, l))
-      by true e l = (alone_in store (u ∷ name) n (and_then (class_named s (u ∷ name)) (λ c. new_array store c n (default_of name))) (array_at u name (eq_of u 91 e)) h refl).0
+      by true e l = (alone_in store (u ∷ name) n (option_and_then (λ c. new_array store c n (default_of name)) (class_named s (u ∷ name))) (array_at u name (eq_of u 91 e)) h refl).0
   nested_in (n ∷ m ∷ more) [] store l h = absurd (omega (arith, l))
   nested_in (n ∷ m ∷ more) (u ∷ name) store l h = by (u == 91) refl l (λ st k x. nested_in (m ∷ more) name st k x)
     where
@@ -264,8 +264,8 @@ module _ (s : System) (past : Past) (z : IsSound s) where
           ((st : Store) → length (m ∷ more) ≤ dimensions_of name → IsStoreIn s past st → IsMakingIn s past st (nested_arrays s (m ∷ more) name st)) → IsMakingIn s past store (nested_arrays s (n ∷ m ∷ more) (u ∷ name) store)
       by false e l again = absurd (omega (arith, l))
       by true e l again =
-          let x = alone_in store (u ∷ name) n (and_then (class_named s (u ∷ name)) (λ c. new_array store c n (default_of name))) (array_at u name (eq_of u 91 e)) h refl in
-          all_elements_in (nested_arrays s (m ∷ more) name) (λ st k. again st (omega (arith, l)) k) n store (making_of store (and_then (class_named s (u ∷ name)) (λ c. new_array store c n (default_of name)))) x.0
+          let x = alone_in store (u ∷ name) n (option_and_then (λ c. new_array store c n (default_of name)) (class_named s (u ∷ name))) (array_at u name (eq_of u 91 e)) h refl in
+          all_elements_in (nested_arrays s (m ∷ more) name) (λ st k. again st (omega (arith, l)) k) n store (making_of store (option_and_then (λ c. new_array store c n (default_of name)) (class_named s (u ∷ name)))) x.0
           (λ r q. let y = x.1 r q in record { class = y.0; of = y.2; other = array_named s name y.0 z (subst (λ (v : ℕ). class_named s (v ∷ name) ≡ Some y.0) (eq_of u 91 e) y.1); array = array_at u name (eq_of u 91 e) y.0 y.1 })
 
 has_left : (a b : List ℕ) (x : ℕ) → Has a x → Has (a ++ b) x
@@ -355,12 +355,12 @@ class_of_reference store r a n of e =
 
 -- the locals and the stack of a new frame
 count_of : (s : System) (m : ℕ) (c : Code) (l : Locals) → code_of s m ≡ Some c → local_count s (frame_with m c l) ≡ c.max_locals
-unfolding local_count frame_with mapped or_zero
-count_of s m c l e = ap (λ (o : Option Code). or_zero (mapped (λ (c : Code). c.max_locals) o)) e
+unfolding local_count frame_with
+count_of s m c l e = ap (λ (o : Option Code). unwrap_or (option_map (λ (c : Code). c.max_locals) o) 0) e
 
 limit_of : (s : System) (m : ℕ) (c : Code) (l : Locals) → code_of s m ≡ Some c → stack_limit s (frame_with m c l) ≡ c.max_stack
-unfolding stack_limit frame_with mapped or_zero
-limit_of s m c l e = ap (λ (o : Option Code). or_zero (mapped (λ (c : Code). c.max_stack) o)) e
+unfolding stack_limit frame_with
+limit_of s m c l e = ap (λ (o : Option Code). unwrap_or (option_map (λ (c : Code). c.max_stack) o) 0) e
 
 no_effects : (x : Selector) (m : BuiltInMethod) → find (is_of x) (effects_of portal_class) ≡ Some m → ⊥
 unfolding effects_of opened_built_in
@@ -487,9 +487,9 @@ module _ (s : System) (past : Past) (core : Core) (z : IsSound s) (fs : AllByRec
   text_in text stack u i = by (literal_of core.store.literals text) refl
     where
       by : (o : Option ℕ) → literal_of core.store.literals text ≡ o →
-          R (elim o as (λ _. ObjectOutcome) [ Some r ↦ leaves s core core.store (value.Ref r ∷ stack) | None ↦ leaves_new s core stack (mapped (with_literal text) (new_object core.store string_class (text_cells text))) ])
+          R (elim o as (λ _. ObjectOutcome) [ Some r ↦ leaves s core core.store (value.Ref r ∷ stack) | None ↦ leaves_new s core stack (option_map (with_literal text) (new_object core.store string_class (text_cells text))) ])
       by (Some r) e = leaves_in core.store (value.Ref r ∷ stack) same (literal_in text r e, i)
-      by None e = leaves_new_in stack (mapped (with_literal text) (new_object core.store string_class (text_cells text))) i (λ x q.
+      by None e = leaves_new_in stack (option_map (with_literal text) (new_object core.store string_class (text_cells text))) i (λ x q.
           let y = mapped_some (with_literal text) (new_object core.store string_class (text_cells text)) x q in
           subst IsFresh y.2 (with_literal_in text y.0 (made string_class y.0 (new_object_in s past core.store string_class (text_cells text) y.0 h string_known (text_cells_in past core.store text u) y.1))))
 
@@ -627,7 +627,7 @@ module _ (s : System) (past : Past) (core : Core) (z : IsSound s) (fs : AllByRec
       by false q e = cc
 
   -- an object that is of class c may have the value in field i
-  field_stands : (c i r : ℕ) (v x : Value) → V v → is_object_of s core.store c r ≡ true → and_then (field_type s c i) (fitting_value s core.store v) ≡ Some x → MayStand past core.store r x
+  field_stands : (c i r : ℕ) (v x : Value) → V v → is_object_of s core.store c r ≡ true → option_and_then (fitting_value s core.store v) (field_type s c i) ≡ Some x → MayStand past core.store r x
   unfolding is_object_of passes
   field_stands c i r v x k o e =
       let y = then_some (field_type s c i) (fitting_value s core.store v) x e in
@@ -640,7 +640,7 @@ module _ (s : System) (past : Past) (core : Core) (z : IsSound s) (fs : AllByRec
             subst (IsTextIfObject core.store) f.is (kept_text core.store y.0 v (string_fits s core.store v z (subst (λ (t : List ℕ). shape_fits s true (shape_of core.store v) t ≡ true) t f.fits)));
       }
 
-  put_in : (c i r : ℕ) (v x : Value) (rest : Stack) → V v → Vs rest → and_then (field_type s c i) (fitting_value s core.store v) ≡ Some x → (b : Bool) → is_object_of s core.store c r ≡ b →
+  put_in : (c i r : ℕ) (v x : Value) (rest : Stack) → V v → Vs rest → option_and_then (fitting_value s core.store v) (field_type s c i) ≡ Some x → (b : Bool) → is_object_of s core.store c r ≡ b →
       R (if b then leaves s core (with_cell core.store r i x) rest else object.BadCode)
   put_in c i r v x rest k ks e true q =
       let l = with_cell_in s past core.store r i x h (field_stands c i r v x k q e) in
@@ -651,12 +651,12 @@ module _ (s : System) (past : Past) (core : Core) (z : IsSound s) (fs : AllByRec
   unfolding put_field_row
   put_field_in c i [] k = tt
   put_field_in c i (v ∷ []) k = tt
-  put_field_in c i (v ∷ value.Null ∷ rest) k = given_in (and_then (field_type s c i) (fitting_value s core.store v)) _ (λ x q. null_class)
-  put_field_in c i (v ∷ value.Ref r ∷ rest) k = given_in (and_then (field_type s c i) (fitting_value s core.store v)) _ (λ x q. put_in c i r v x rest k.0 k.1.1 q (is_object_of s core.store c r) refl)
-  put_field_in c i (v ∷ value.Int n ∷ rest) k = given_in (and_then (field_type s c i) (fitting_value s core.store v)) _ (λ x q. tt)
-  put_field_in c i (v ∷ value.Long n ∷ rest) k = given_in (and_then (field_type s c i) (fitting_value s core.store v)) _ (λ x q. tt)
-  put_field_in c i (v ∷ value.Portal n e ∷ rest) k = given_in (and_then (field_type s c i) (fitting_value s core.store v)) _ (λ x q. tt)
-  put_field_in c i (v ∷ value.Mem n ∷ rest) k = given_in (and_then (field_type s c i) (fitting_value s core.store v)) _ (λ x q. tt)
+  put_field_in c i (v ∷ value.Null ∷ rest) k = given_in (option_and_then (fitting_value s core.store v) (field_type s c i)) _ (λ x q. null_class)
+  put_field_in c i (v ∷ value.Ref r ∷ rest) k = given_in (option_and_then (fitting_value s core.store v) (field_type s c i)) _ (λ x q. put_in c i r v x rest k.0 k.1.1 q (is_object_of s core.store c r) refl)
+  put_field_in c i (v ∷ value.Int n ∷ rest) k = given_in (option_and_then (fitting_value s core.store v) (field_type s c i)) _ (λ x q. tt)
+  put_field_in c i (v ∷ value.Long n ∷ rest) k = given_in (option_and_then (fitting_value s core.store v) (field_type s c i)) _ (λ x q. tt)
+  put_field_in c i (v ∷ value.Portal n e ∷ rest) k = given_in (option_and_then (fitting_value s core.store v) (field_type s c i)) _ (λ x q. tt)
+  put_field_in c i (v ∷ value.Mem n ∷ rest) k = given_in (option_and_then (fitting_value s core.store v) (field_type s c i)) _ (λ x q. tt)
 
   get_static_in : (i : ℕ) (stack : Stack) → Vs stack → R (get_static_row s core i stack)
   unfolding get_static_row
@@ -665,7 +665,7 @@ module _ (s : System) (past : Past) (core : Core) (z : IsSound s) (fs : AllByRec
   put_static_in : (i : ℕ) (stack : Stack) → Vs stack → R (put_static_row s core i stack)
   unfolding put_static_row
   put_static_in i [] k = tt
-  put_static_in i (v ∷ rest) k = given_in (and_then (slice_get (static_types s) i) (fitting_value s core.store v)) _ (λ x q.
+  put_static_in i (v ∷ rest) k = given_in (option_and_then (fitting_value s core.store v) (slice_get (static_types s) i)) _ (λ x q.
       let y = then_some (slice_get (static_types s) i) (fitting_value s core.store v) x q in
       let f = fitting_in v x y.0 y.2 in
       let after : Store = record core.store { statics = slice_set core.store.statics i x } in
@@ -751,7 +751,7 @@ module _ (s : System) (past : Past) (core : Core) (z : IsSound s) (fs : AllByRec
   pub frame_in : (m : ℕ) (args : List Value) (f : Frame) → Vs args → frame_of s m args ≡ Some f → IsFrameIn s past core.store f
   unfolding frame_of frame_with
   frame_in m args f k e =
-      let c = then_some (code_of s m) (λ c. mapped (frame_with m c) (locals_with (replicate c.max_locals None) 0 args)) f e in
+      let c = then_some (code_of s m) (λ c. option_map (frame_with m c) (locals_with (replicate c.max_locals None) 0 args)) f e in
       let l = mapped_some (frame_with m c.0) (locals_with (replicate c.0.max_locals None) 0 args) f c.2 in
       let v = locals_in c.0.max_locals (replicate c.0.max_locals None) 0 args l.0 (all_replicate (IsValueInSome past core.store) c.0.max_locals None tt, length-replicate c.0.max_locals None) k l.1 in
       subst (IsFrameIn s past core.store) l.2 (record {
@@ -773,14 +773,14 @@ module _ (s : System) (past : Past) (core : Core) (z : IsSound s) (fs : AllByRec
 
   portal_unfit : (k : Method) (args : List Value) → k.class.0 ≡ portal_class → IsNativeIn s past core.store (built_in_outcome s core.store k args)
   unfolding built_in_outcome
-  portal_unfit k args e = by (and_then (selector_at s k.selector.0) (λ x. find (is_of x) (effects_of k.class.0))) refl
+  portal_unfit k args e = by (option_and_then (λ x. find (is_of x) (effects_of k.class.0)) (selector_at s k.selector.0)) refl
     where
-      none : (m : BuiltInMethod) (c : ℕ) → c ≡ portal_class → and_then (selector_at s k.selector.0) (λ x. find (is_of x) (effects_of c)) ≡ Some m → ⊥
+      none : (m : BuiltInMethod) (c : ℕ) → c ≡ portal_class → option_and_then (λ x. find (is_of x) (effects_of c)) (selector_at s k.selector.0) ≡ Some m → ⊥
       none m c q w =
           let x = then_some (selector_at s k.selector.0) (λ x. find (is_of x) (effects_of c)) m w in
           no_effects x.0 m (subst (λ (n : ℕ). find (is_of x.0) (effects_of n) ≡ Some m) q x.2)
 
-      by : (o : Option BuiltInMethod) → and_then (selector_at s k.selector.0) (λ x. find (is_of x) (effects_of k.class.0)) ≡ o → IsNativeIn s past core.store (elim o as (λ _. BuiltInOutcome) [ None ↦ Unfit | Some b ↦ b.effect s core.store args ])
+      by : (o : Option BuiltInMethod) → option_and_then (λ x. find (is_of x) (effects_of k.class.0)) (selector_at s k.selector.0) ≡ o → IsNativeIn s past core.store (elim o as (λ _. BuiltInOutcome) [ None ↦ Unfit | Some b ↦ b.effect s core.store args ])
       by None w = tt
       by (Some m) w = absurd (none m k.class.0 e w)
 
@@ -851,7 +851,7 @@ module _ (s : System) (past : Past) (core : Core) (z : IsSound s) (fs : AllByRec
 
   selected_in : (k : Method) (o : Value) (others : List Value) (below : Stack) → IsCalled k o others below → R (selected_row s core k o (record { arguments = o ∷ others; below = below }))
   unfolding selected_row
-  selected_in k o others below c = given_in (and_then (class_of_shape (shape_of core.store o)) (λ a. selected_method s a k.selector.0)) _ (λ m q.
+  selected_in k o others below c = given_in (option_and_then (λ a. selected_method s a k.selector.0) (class_of_shape (shape_of core.store o))) _ (λ m q.
       let x = then_some (class_of_shape (shape_of core.store o)) (λ a. selected_method s a k.selector.0) m q in
       run_in m (record { arguments = o ∷ others; below = below }) (called_taken k o others below c) (λ j w.
       let t = selected_is s x.0 k.selector.0 m j x.2 w in
@@ -965,7 +965,7 @@ module _ (s : System) (past : Past) (core : Core) (z : IsSound s) (fs : AllByRec
   unfolding class_row name_of_class
   class_row_in row.New i c stack k d v = new_in c stack k v
   class_row_in row.NewReferenceArray i c stack k d v = given_in (type_of s c) _ (λ type q. new_array_row_in type stack v)
-  class_row_in row.NewMultiArray i c stack k d v = given_in (mapped (λ k. k.name) (class_at s c)) _ (λ type q.
+  class_row_in row.NewMultiArray i c stack k d v = given_in (option_map (λ k. k.name) (class_at s c)) _ (λ type q.
       let x = mapped_some (λ (k : Class). k.name) (class_at s c) type q in
       multi_in type (index_operand i 1) stack (subst (λ (name : List ℕ). index_operand i 1 ≤ dimensions_of name) x.2 (d refl x.0 x.1)) v)
   class_row_in row.CheckCast i c stack k d v = check_in c stack v

@@ -11,7 +11,7 @@ use Rattle.jx_base.specs.declared.value.Value.{Value}
 use Rattle.jx_base.specs.declared.value.Value.TheVariants as value
 use Rattle.jx_base.specs.declared.value.Word.{Word}
 use Rattle.jx_base.specs.declared.value.Word.TheVariants as word
-use Rattle.jx_base.specs.Basics.{contains_number, firsts, firsts_after, mapped, or_zero}
+use Rattle.jx_base.specs.Basics.{contains_number, firsts, firsts_after}
 use Rattle.jx_base.specs.Histories.{Past}
 use Rattle.program_model.specs.Limits.{node_limit, parcel_limit}
 use Rattle.program_model.specs.ParcelParts.{parcel_cells, parcel_words}
@@ -23,6 +23,7 @@ use Rattle.program_model.proofs.WalkRounds.{Has, has_head, has_tail, has_cases, 
 use Rattle.program_model.proofs.OneWalk.{only_walk}
 use Rattle.machine_laws.specs.Values.{IsValueIn, IsObject, IsObjectIn, IsExportIn, IsStoreIn}
 use Rattle.machine_laws.proofs.Lists.{all_append, all_get, all_left, all_right}
+use Rattle.std.specs.Option.{option_map, unwrap_or}
 
 -- ---- the members of a walk
 
@@ -78,11 +79,10 @@ has_place (y ∷ xs) r h = by (y == r) refl (λ t. has_place xs r t)
     by true q again = omega arith
     by false q again = elim (has_cases y xs r h) [ inl e ↦ absurd (grind (arith, nat_tests, e, q)) | inr t ↦ omega (arith, again t) ]
 
-place_below : (xs : List ℕ) (r : ℕ) → Has xs r → or_zero (position (λ y. y == r) xs) < length xs
-unfolding or_zero
+place_below : (xs : List ℕ) (r : ℕ) → Has xs r → unwrap_or (position (λ y. y == r) xs) 0 < length xs
 place_below xs r h = by (nat_lt (position_or_len (λ y. y == r) xs) (length xs))
   where
-    by : (b : Bool) → or_zero (cond b (Some (position_or_len (λ y. y == r) xs)) None) < length xs
+    by : (b : Bool) → unwrap_or (cond b (Some (position_or_len (λ y. y == r) xs)) None) 0 < length xs
     by true = has_place xs r h
     by false = omega (arith, has_place xs r h)
 
@@ -153,7 +153,7 @@ module _ (s : System) (past : Past) (store : Store) (h : IsStoreIn s past store)
   word_in walk (value.Ref r) i k = by (export_at store.exports r) refl k
     where
       by : (o : Option Exported) → export_at store.exports r ≡ o → AllByRecursion (Has walk) (if is_some o then [] else r ∷ []) →
-          IsWordIn past (length walk) (elim o as (λ _. Word) [ None ↦ word.Node (or_zero (position (λ y. y == r) walk)) | Some x ↦ word.Portal x.service x.iface ])
+          IsWordIn past (length walk) (elim o as (λ _. Word) [ None ↦ word.Node (unwrap_or (position (λ y. y == r) walk) 0) | Some x ↦ word.Portal x.service x.iface ])
       by None e k = place_below walk r k.0
       by (Some x) e k = (export_in store.exports r x h.exports e).known
 
@@ -175,11 +175,11 @@ module _ (s : System) (past : Past) (store : Store) (h : IsStoreIn s past store)
     words : AllByRecursion (IsWordIn past (length walk)) (flat_map (λ (n : Node). n.cells) nodes)
 
   nodes_in : (walk rs : List ℕ) → AllByRecursion (IsObject store) rs → AllByRecursion (Has walk) (object_references store.objects store.exports rs) → AreNodes walk rs (nodes_of store.objects store.exports walk rs)
-  unfolding nodes_of object_references cells_at class_of_object mapped node_of
+  unfolding nodes_of object_references cells_at class_of_object node_of
   nodes_in walk [] i k = record { count = refl; classes = tt; words = tt }
   nodes_in walk (r ∷ rs) i k = by (slice_get store.objects r) refl i.0 k (λ x y. nodes_in walk rs x y)
     where
-      by : (o : Option HeapObject) → slice_get store.objects r ≡ o → is_some (mapped (λ (o : HeapObject). o.class.0) o) ≡ true →
+      by : (o : Option HeapObject) → slice_get store.objects r ≡ o → is_some (option_map (λ (o : HeapObject). o.class.0) o) ≡ true →
           AllByRecursion (Has walk) (references_of store.exports (elim o as (λ _. List Value) [ None ↦ [] | Some o ↦ o.cells ]) ++ object_references store.objects store.exports rs) →
           (AllByRecursion (IsObject store) rs → AllByRecursion (Has walk) (object_references store.objects store.exports rs) → AreNodes walk rs (nodes_of store.objects store.exports walk rs)) →
           AreNodes walk (r ∷ rs) (elim o as (λ _. List Node) [ None ↦ nodes_of store.objects store.exports walk rs | Some o ↦ node_of store.exports walk o ∷ nodes_of store.objects store.exports walk rs ])

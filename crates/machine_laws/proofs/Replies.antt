@@ -16,7 +16,7 @@ use Rattle.jx_base.specs.declared.value.Node.{Node}
 use Rattle.jx_base.specs.declared.value.Parcel.{Parcel}
 use Rattle.jx_base.specs.declared.value.Word.{Word}
 use Rattle.jx_base.specs.declared.value.Word.TheVariants as word
-use Rattle.jx_base.specs.Basics.{and_then, mapped, passes, is_number, contains_number}
+use Rattle.jx_base.specs.Basics.{passes, is_number, contains_number}
 use Rattle.program_model.specs.BuiltIn.{string_class, builder_class, opened_built_in}
 use Rattle.jx_model.specs.Calls.{Asked, Answer, asked_of, asked_by, call_entry, is_call, queued_as, answer_of, answered_by, answered_by_act, answer_by_reply, refused_answer, thrown, first_since, ends_server, caller_of}
 use Rattle.jx_base.specs.Histories.{Past, is_done, nth_entry, count_where}
@@ -39,6 +39,7 @@ use Rattle.machine_laws.specs.Sound.{IsSound}
 use Rattle.machine_laws.proofs.EntryValues.{loosen}
 use Rattle.machine_laws.proofs.NumericValues.{then_some}
 use Rattle.machine_laws.proofs.Natives.{class_fits_string, string_type}
+use Rattle.std.specs.Option.{option_and_then, option_map}
 
 -- ---- what fits a domain
 
@@ -72,10 +73,10 @@ unknown_fits s t h = cc
 
 -- a cell of a StringBuilder is a String, where it is a node
 text_fits : (s : System) (nodes : List Node) (w : Word) → IsSound s → cell_fits s nodes w string_type ≡ true → IsTextWord nodes w
-unfolding cell_fits shape_of_word mapped
+unfolding cell_fits shape_of_word
 text_fits s nodes (word.Node k) z h = by (slice_get nodes k) (both (shape_fits s false (elim (slice_get nodes k) as (λ _. Shape) [ None ↦ Unknown | Some n ↦ ObjectShape n.class.0 ]) string_type) _ h).0
   where
-    by : (o : Option Node) → shape_fits s false (elim o as (λ _. Shape) [ None ↦ Unknown | Some n ↦ ObjectShape n.class.0 ]) string_type ≡ true → mapped (λ (n : Node). n.class.0) o ≡ Some string_class
+    by : (o : Option Node) → shape_fits s false (elim o as (λ _. Shape) [ None ↦ Unknown | Some n ↦ ObjectShape n.class.0 ]) string_type ≡ true → option_map (λ (n : Node). n.class.0) o ≡ Some string_class
     by None e = unknown_fits s string_type e
     by (Some n) e = ap (λ (c : ℕ). Some c) (class_fits_string s n.class.0 z (loosen s (ObjectShape n.class.0) string_type e))
 text_fits s nodes _ z h = tt
@@ -168,7 +169,7 @@ not_false false h = cc
 -- a parcel that fits some domain has the texts
 some_texts : (s : System) (past : Past) (o : Option ℕ) (p : Parcel) → IsSound s → fits_domain_of s past o p ≡ true → AllByRecursion (HasTexts p.nodes) p.nodes
 unfolding fits_domain_of
-some_texts s past o p z h = let x = passed (λ t. fits_domain s t p) (and_then o (template_of s past)) h in parcel_texts s x.0 p z x.2
+some_texts s past o p z h = let x = passed (λ t. fits_domain s t p) (option_and_then (template_of s past) o) h in parcel_texts s x.0 p z x.2
 
 called_texts : (s : System) (past : Past) (d : ℕ) (k : ServiceId) (m : MethodId) (p : Parcel) → IsSound s → is_some (queued_as (called s past d k m p)) ≡ true → AllByRecursion (HasTexts p.nodes) p.nodes
 unfolding called

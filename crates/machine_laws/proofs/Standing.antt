@@ -9,7 +9,6 @@ use Rattle.jx_base.specs.declared.act.Entry.{Entry}
 use Rattle.jx_base.specs.declared.frame.Frame.{Frame}
 use Rattle.jx_base.specs.declared.program.System.{System}
 use Rattle.jx_base.specs.declared.value.Value.{Value}
-use Rattle.jx_base.specs.Basics.{or_zero}
 use Rattle.jx_base.specs.Histories.{Past}
 use Rattle.program_model.specs.Instructions.{Reading, instruction_at}
 use Rattle.machine_model.specs.NumericRows.{NumericOutcome, numeric_row}
@@ -22,6 +21,7 @@ use Rattle.machine_model.specs.Running.{Outcome, Step, Ask, step, stage_step, fr
 use Rattle.machine_model.specs.AfterEntry.{after_entry}
 use Rattle.machine_model.specs.Machine.{Does, Idle, domain_state, act_in, next_act}
 use Rattle.machine_laws.specs.Standing.{advanced, Stands, Asks, StepsTo, StandingHolds}
+use Rattle.std.specs.Option.{unwrap_or}
 
 -- ---- a step keeps the running thread and takes one of the fuel
 
@@ -37,9 +37,9 @@ StepKeeps st (Ask a) = ⊤
 
 throw_keeps : (s : System) (st : State) (t : ℕ) (x : Thread) (r : ℕ) → Keeps st (after_throw s st t x r)
 unfolding after_throw with_stage with_frames with_thread
-throw_keeps s st t x r = by (frames_at_handler s (or_zero (class_of_object st.store r)) r x.frames) refl
+throw_keeps s st t x r = by (frames_at_handler s (unwrap_or (class_of_object st.store r) 0) r x.frames) refl
   where
-    by : (fs : List Frame) → frames_at_handler s (or_zero (class_of_object st.store r)) r x.frames ≡ fs → Keeps st (after_throw s st t x r)
+    by : (fs : List Frame) → frames_at_handler s (unwrap_or (class_of_object st.store r) 0) r x.frames ≡ fs → Keeps st (after_throw s st t x r)
     by [] e = rw e (record { running = refl; fuel = refl })
     by (f ∷ fs) e = rw e (record { running = refl; fuel = refl })
 

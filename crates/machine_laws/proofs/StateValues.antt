@@ -11,7 +11,7 @@ use Rattle.jx_base.specs.declared.program.System.{System}
 use Rattle.jx_base.specs.declared.value.Parcel.{Parcel}
 use Rattle.jx_base.specs.declared.value.Value.{Value}
 use Rattle.jx_base.specs.declared.value.Value.TheVariants as value
-use Rattle.jx_base.specs.Basics.{mapped, passes, or_zero}
+use Rattle.jx_base.specs.Basics.{passes}
 use Rattle.program_model.specs.BuiltIn.{stack_overflow_error, opened_built_in}
 use Rattle.jx_base.specs.Histories.{Past}
 use Rattle.program_model.specs.Instructions.{Reading, instruction_at}
@@ -37,6 +37,7 @@ use Rattle.machine_laws.proofs.NumericValues.{IsNumericIn, numeric_in, built_in_
 use Rattle.machine_laws.proofs.ObjectValues.{IsRowIn, object_in, frame_in}
 use Rattle.machine_laws.proofs.Packing.{packed_in}
 use Rattle.machine_laws.proofs.Stores.{IsLater, exception_in, grows_to, frames_grow, threads_grow, object_class_in}
+use Rattle.std.specs.Option.{option_map, unwrap_or}
 
 -- the state after a step is one of values, or the act is well made
 abbrev pub IsStepIn : System → Past → Outcome → Type 0
@@ -93,12 +94,12 @@ module _ (s : System) (past : Past) (z : IsSound s) where
 
   pub throw_in : (st : State) (t : ℕ) (x : Thread) (r : ℕ) → IsStateIn s past st → Fs st.store x.frames → IsObject st.store r → IsStateIn s past (after_throw s st t x r)
   unfolding after_throw
-  throw_in st t x r h i o = by (frames_at_handler s (or_zero (class_of_object st.store r)) r x.frames) refl
+  throw_in st t x r h i o = by (frames_at_handler s (unwrap_or (class_of_object st.store r) 0) r x.frames) refl
     where
-      k : Fs st.store (frames_at_handler s (or_zero (class_of_object st.store r)) r x.frames)
-      k = handler_frames st.store (or_zero (class_of_object st.store r)) r x.frames o i
+      k : Fs st.store (frames_at_handler s (unwrap_or (class_of_object st.store r) 0) r x.frames)
+      k = handler_frames st.store (unwrap_or (class_of_object st.store r) 0) r x.frames o i
 
-      by : (fs : List Frame) → frames_at_handler s (or_zero (class_of_object st.store r)) r x.frames ≡ fs → IsStateIn s past (after_throw s st t x r)
+      by : (fs : List Frame) → frames_at_handler s (unwrap_or (class_of_object st.store r) 0) r x.frames ≡ fs → IsStateIn s past (after_throw s st t x r)
       by [] e = rw e (set_stage st t x (Threw r) h o)
       by (f ∷ fs) e = rw e (set_frames st t x (f ∷ fs) h (subst (Fs st.store) e k))
 
@@ -228,11 +229,10 @@ module _ (s : System) (past : Past) (z : IsSound s) where
   root_values_in st None i = tt
   root_values_in st (Some v) i = (i, tt)
 
-  thrown_class : (st : State) (r : ℕ) → IsStateIn s past st → IsWellMade s past (act.EndThread (mapped (λ c. record { 0 = c }) (class_of_object st.store r)))
-  unfolding mapped
+  thrown_class : (st : State) (r : ℕ) → IsStateIn s past st → IsWellMade s past (act.EndThread (option_map (λ c. record { 0 = c }) (class_of_object st.store r)))
   thrown_class st r h = by (class_of_object st.store r) refl
     where
-      by : (o : Option ℕ) → class_of_object st.store r ≡ o → IsWellMade s past (act.EndThread (mapped (λ c. record { 0 = c }) o))
+      by : (o : Option ℕ) → class_of_object st.store r ≡ o → IsWellMade s past (act.EndThread (option_map (λ c. record { 0 = c }) o))
       by None e = tt
       by (Some c) e = object_class_in s past st.store r c h.store e
 
@@ -246,7 +246,7 @@ module _ (s : System) (past : Past) (z : IsSound s) where
   ending_in st x (Threw r) h i = by x.call
     where
       by : (o : Option CallId) → IsWellMade s past (elim o as (λ _. Act) [
-        | None ↦ act.EndThread (mapped (λ c. record { 0 = c }) (class_of_object st.store r))
+        | None ↦ act.EndThread (option_map (λ c. record { 0 = c }) (class_of_object st.store r))
         | Some c ↦ answer_act st c (λ p. act.Throw c p) (value.Ref r ∷ [])
       ])
       by None = thrown_class st r h

@@ -12,7 +12,6 @@ use Rattle.jx_base.specs.declared.program.Field.{Field}
 use Rattle.jx_base.specs.declared.program.System.{System}
 use Rattle.jx_base.specs.declared.value.Value.{Value}
 use Rattle.jx_base.specs.declared.value.Value.TheVariants as value
-use Rattle.jx_base.specs.Basics.{and_then, mapped}
 use Rattle.program_model.specs.BuiltIn.{string_class, builder_class, opened_built_in}
 use Rattle.jx_base.specs.Histories.{Past, nth_entry}
 use Rattle.program_model.specs.Lookup.{class_at}
@@ -26,17 +25,18 @@ use Rattle.jx_base.proofs.NthEntries.{nth_stays}
 use Rattle.machine_laws.specs.Values.{IsValueIn, IsValueInSome, IsUnitValue, IsTextIfObject, IsObject, IsObjectIn, IsExportIn, IsStoreIn, IsFrameIn, IsStageIn, IsThreadIn, IsStateIn, HasObjectsOf, Grows, cell_limit}
 use Rattle.machine_laws.specs.Sound.{IsSound}
 use Rattle.machine_laws.proofs.Lists.{length_set, all_weaken, all_append, all_get, all_set, all_images}
+use Rattle.std.specs.Option.{option_and_then, option_map}
 
 -- ---- growth
 
 pub interface_after : (e : Entry) (past : Past) (k : ℕ) (c : ClassId) → interface_of past k ≡ Some c → interface_of (e ∷ past) k ≡ Some c
-unfolding interface_of export_of and_then
+unfolding interface_of export_of
 interface_after e past k c h = by (nth_entry is_export past k) refl h
   where
-    by : (o : Option Entry) → nth_entry is_export past k ≡ o → and_then o (λ x. exported_interface x.act x.reply) ≡ Some c →
-        and_then (nth_entry is_export (e ∷ past) k) (λ x. exported_interface x.act x.reply) ≡ Some c
+    by : (o : Option Entry) → nth_entry is_export past k ≡ o → option_and_then (λ x. exported_interface x.act x.reply) o ≡ Some c →
+        option_and_then (λ x. exported_interface x.act x.reply) (nth_entry is_export (e ∷ past) k) ≡ Some c
     by None q h = cc
-    by (Some x) q h = ap (λ (o : Option Entry). and_then o (λ x. exported_interface x.act x.reply)) (nth_stays is_export e past k x q) ∙ h
+    by (Some x) q h = ap (λ (o : Option Entry). option_and_then (λ x. exported_interface x.act x.reply) o) (nth_stays is_export e past k x q) ∙ h
 
 interface_on : (past later : Past) (k : ℕ) (c : ClassId) → interface_of past k ≡ Some c → interface_of (later ++ past) k ≡ Some c
 interface_on past [] k c h = h
@@ -153,15 +153,14 @@ get_last (x ∷ xs) o = get_last xs o
 
 -- the class of an object, among objects
 abbrev class_in : List HeapObject → ℕ → Option ℕ
-class_in os r = mapped (λ (o : HeapObject). o.class.0) (slice_get os r)
+class_in os r = option_map (λ (o : HeapObject). o.class.0) (slice_get os r)
 
 class_in_left : (xs ys : List HeapObject) (r c : ℕ) → class_in xs r ≡ Some c → class_in (xs ++ ys) r ≡ Some c
-unfolding mapped
 class_in_left xs ys r c h = by (slice_get xs r) refl h
   where
-    by : (o : Option HeapObject) → slice_get xs r ≡ o → mapped (λ (o : HeapObject). o.class.0) o ≡ Some c → class_in (xs ++ ys) r ≡ Some c
+    by : (o : Option HeapObject) → slice_get xs r ≡ o → option_map (λ (o : HeapObject). o.class.0) o ≡ Some c → class_in (xs ++ ys) r ≡ Some c
     by None e h = cc
-    by (Some x) e h = ap (mapped (λ (o : HeapObject). o.class.0)) (get_left xs ys r x e) ∙ h
+    by (Some x) e h = ap (option_map (λ (o : HeapObject). o.class.0)) (get_left xs ys r x e) ∙ h
 
 -- a store has what another has, where its objects begin with the other's
 pub begins_with : (before after : Store) (more : List HeapObject) → after.objects ≡ before.objects ++ more → HasObjectsOf before after
@@ -188,8 +187,8 @@ store_with store c cells = record store {
 }
 
 new_class : (store : Store) (c : ℕ) (cells : List Value) → class_of_object (store_with store c cells) (length store.objects) ≡ Some c
-unfolding class_of_object mapped
-new_class store c cells = ap (mapped (λ (o : HeapObject). o.class.0)) (get_last store.objects (record { class = record { 0 = c }; cells = cells }))
+unfolding class_of_object
+new_class store c cells = ap (option_map (λ (o : HeapObject). o.class.0)) (get_last store.objects (record { class = record { 0 = c }; cells = cells }))
 
 store_with_in : (s : System) (past : Past) (store : Store) (c : ℕ) (cells : List Value) → IsStoreIn s past store → IsClass s c → AreCellsOf past store c cells → length cells + 2 ≤ store.left →
     IsMade s past store c (store_with store c cells, length store.objects)
@@ -324,7 +323,6 @@ exception_in s past store c z h k = by (new_object store c (default_cells s c)) 
 -- ---- another value in a cell
 
 class_in_set : (os : List HeapObject) (r k : ℕ) (o y : HeapObject) → slice_get os r ≡ Some o → y.class.0 ≡ o.class.0 → class_in (slice_set os r y) k ≡ class_in os k
-unfolding mapped
 class_in_set [] r k o y h e = refl
 class_in_set (x ∷ os) zero zero o y h e = let q : x ≡ o = cc in ap (λ (c : ℕ). Some c) (e ∙ ap (λ (o : HeapObject). o.class.0) (sym q))
 class_in_set (x ∷ os) zero (suc k) o y h e = refl
@@ -342,7 +340,7 @@ abbrev pub store_set : Store → ℕ → HeapObject → Store
 store_set store r o = record store { objects = slice_set store.objects r o }
 
 pub with_cell_in : (s : System) (past : Past) (store : Store) (r i : ℕ) (v : Value) → IsStoreIn s past store → MayStand past store r v → IsLater s past store (with_cell store r i v)
-unfolding with_cell class_of_object mapped
+unfolding with_cell class_of_object
 with_cell_in s past store r i v h m = by (slice_get store.objects r) refl
   where
     changed : (o : HeapObject) → slice_get store.objects r ≡ Some o → IsLater s past store (store_set store r (record o { cells = slice_set o.cells i v }))
@@ -376,7 +374,7 @@ with_cell_in s past store r i v h m = by (slice_get store.objects r) refl
         old = all_get (IsObjectIn s past store) store.objects r o e h.objects
 
         of : class_in store.objects r ≡ Some o.class.0
-        of = ap (mapped (λ (o : HeapObject). o.class.0)) e
+        of = ap (option_map (λ (o : HeapObject). o.class.0)) e
 
         object : IsObjectIn s past after new
         object = object_grows s past store past after g new (record {
@@ -411,27 +409,27 @@ cells_small s past store r h = by (slice_get store.objects r) refl
 
 -- a String's cells are units, and what a StringBuilder refers to is a String
 pub cells_units : (s : System) (past : Past) (store : Store) (r : ℕ) → IsStoreIn s past store → class_of_object store r ≡ Some string_class → AllByRecursion IsUnitValue (cells_of store r)
-unfolding cells_of class_of_object mapped
+unfolding cells_of class_of_object
 cells_units s past store r h c = by (slice_get store.objects r) refl c
   where
-    by : (o : Option HeapObject) → slice_get store.objects r ≡ o → mapped (λ (o : HeapObject). o.class.0) o ≡ Some string_class → AllByRecursion IsUnitValue (elim o as (λ _. List Value) [ None ↦ [] | Some o ↦ o.cells ])
+    by : (o : Option HeapObject) → slice_get store.objects r ≡ o → option_map (λ (o : HeapObject). o.class.0) o ≡ Some string_class → AllByRecursion IsUnitValue (elim o as (λ _. List Value) [ None ↦ [] | Some o ↦ o.cells ])
     by None e q = tt
     by (Some o) e q = (all_get (IsObjectIn s past store) store.objects r o e h.objects).units (let z : o.class.0 ≡ string_class = cc in z)
 
 pub cells_text : (s : System) (past : Past) (store : Store) (r : ℕ) → IsStoreIn s past store → class_of_object store r ≡ Some builder_class → AllByRecursion (IsTextIfObject store) (cells_of store r)
-unfolding cells_of class_of_object mapped
+unfolding cells_of class_of_object
 cells_text s past store r h c = by (slice_get store.objects r) refl c
   where
-    by : (o : Option HeapObject) → slice_get store.objects r ≡ o → mapped (λ (o : HeapObject). o.class.0) o ≡ Some builder_class → AllByRecursion (IsTextIfObject store) (elim o as (λ _. List Value) [ None ↦ [] | Some o ↦ o.cells ])
+    by : (o : Option HeapObject) → slice_get store.objects r ≡ o → option_map (λ (o : HeapObject). o.class.0) o ≡ Some builder_class → AllByRecursion (IsTextIfObject store) (elim o as (λ _. List Value) [ None ↦ [] | Some o ↦ o.cells ])
     by None e q = tt
     by (Some o) e q = (all_get (IsObjectIn s past store) store.objects r o e h.objects).text (let z : o.class.0 ≡ builder_class = cc in z)
 
 -- the class of an object is a class of the system
 pub object_class_in : (s : System) (past : Past) (store : Store) (r c : ℕ) → IsStoreIn s past store → class_of_object store r ≡ Some c → IsClass s c
-unfolding class_of_object mapped
+unfolding class_of_object
 object_class_in s past store r c h e = by (slice_get store.objects r) refl e
   where
-    by : (o : Option HeapObject) → slice_get store.objects r ≡ o → mapped (λ (o : HeapObject). o.class.0) o ≡ Some c → IsClass s c
+    by : (o : Option HeapObject) → slice_get store.objects r ≡ o → option_map (λ (o : HeapObject). o.class.0) o ≡ Some c → IsClass s c
     by None q e = cc
     by (Some o) q e = let z : o.class.0 ≡ c = cc in subst (IsClass s) z (all_get (IsObjectIn s past store) store.objects r o q h.objects).known
 

@@ -8,7 +8,6 @@ use Rattle.jx_base.specs.declared.value.Node.{Node}
 use Rattle.jx_base.specs.declared.value.Parcel.{Parcel}
 use Rattle.jx_base.specs.declared.value.Word.{Word}
 use Rattle.jx_base.specs.declared.value.Word.TheVariants as word
-use Rattle.jx_base.specs.Basics.{mapped}
 use Rattle.machine_model.specs.AfterEntry.{with_nodes, root_values}
 use Rattle.jx_base.specs.Histories.{Past}
 use Rattle.program_model.specs.ParcelParts.{node_cells, node_size, parcel_cells}
@@ -19,6 +18,7 @@ use Rattle.machine_laws.specs.Handed.{IsUnitWord, IsTextWord, HasTexts, IsHanded
 use Rattle.machine_laws.specs.Values.{IsValueIn, IsUnitValue, IsTextIfObject, IsObjectIn, IsExportIn, IsStoreIn, HasObjectsOf, Grows, cell_limit}
 use Rattle.machine_laws.proofs.Lists.{all_weaken, all_append, all_map, all_left, all_right}
 use Rattle.machine_laws.proofs.Stores.{IsLater, begins_with, object_there, grows_to, object_grows, export_grows, values_grow, literals_grow}
+use Rattle.std.specs.Option.{option_map}
 
 -- ---- sums
 
@@ -40,14 +40,13 @@ get_right (x ∷ xs) ys k zero e = absurd (omega (arith, e))
 get_right (x ∷ xs) ys k (suc n) e = get_right xs ys k n (omega (arith, e))
 
 -- the class of a node's object is the node's
-class_of_node : (first : ℕ) (nodes : List Node) (k : ℕ) → mapped (λ (o : HeapObject). o.class.0) (slice_get (map (unpacked_object first) nodes) k) ≡ mapped (λ (n : Node). n.class.0) (slice_get nodes k)
-unfolding mapped unpacked_object
+class_of_node : (first : ℕ) (nodes : List Node) (k : ℕ) → option_map (λ (o : HeapObject). o.class.0) (slice_get (map (unpacked_object first) nodes) k) ≡ option_map (λ (n : Node). n.class.0) (slice_get nodes k)
+unfolding unpacked_object
 class_of_node first [] k = refl
 class_of_node first (n ∷ nodes) zero = refl
 class_of_node first (n ∷ nodes) (suc k) = class_of_node first nodes k
 
-node_there : (nodes : List Node) (k : ℕ) → k < length nodes → is_some (mapped (λ (n : Node). n.class.0) (slice_get nodes k)) ≡ true
-unfolding mapped
+node_there : (nodes : List Node) (k : ℕ) → k < length nodes → is_some (option_map (λ (n : Node). n.class.0) (slice_get nodes k)) ≡ true
 node_there [] k h = absurd (omega (arith, h))
 node_there (n ∷ nodes) zero h = refl
 node_there (n ∷ nodes) (suc k) h = node_there nodes k (omega (arith, h))
@@ -63,10 +62,10 @@ module _ (s : System) (past : Past) (store : Store) (p : Parcel) (h : IsStoreIn 
   g : Grows past store past after
   g = grows_to past store after more
 
-  node_class : (k : ℕ) → class_of_object after (length store.objects + k) ≡ mapped (λ (n : Node). n.class.0) (slice_get p.nodes k)
+  node_class : (k : ℕ) → class_of_object after (length store.objects + k) ≡ option_map (λ (n : Node). n.class.0) (slice_get p.nodes k)
   unfolding class_of_object
   node_class k =
-      ap (mapped (λ (o : HeapObject). o.class.0)) (get_right store.objects (map (unpacked_object (length store.objects)) p.nodes) k (length store.objects + k) refl)
+      ap (option_map (λ (o : HeapObject). o.class.0)) (get_right store.objects (map (unpacked_object (length store.objects)) p.nodes) k (length store.objects + k) refl)
       ∙ class_of_node (length store.objects) p.nodes k
 
   word_value : (w : Word) → IsWordIn past (length p.nodes) w → IsValueIn past after (value_of (length store.objects) w)

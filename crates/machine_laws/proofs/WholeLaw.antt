@@ -13,7 +13,7 @@ use Rattle.jx_base.specs.declared.ids.ClassId.{ClassId}
 use Rattle.jx_base.specs.declared.ids.ObjectId.{ObjectId}
 use Rattle.jx_base.specs.declared.program.System.{System}
 use Rattle.jx_base.specs.declared.value.Parcel.{Parcel}
-use Rattle.jx_base.specs.Basics.{and_then, not_below_zero}
+use Rattle.jx_base.specs.Basics.{not_below_zero}
 use Rattle.jx_model.specs.Calls.{Asked, Answer, asked_of, answer_of}
 use Rattle.jx_model.specs.Domains.{domains_made}
 use Rattle.jx_base.specs.Histories.{Past}
@@ -36,6 +36,7 @@ use Rattle.machine_laws.proofs.Law.{exported, state_in, next_well_made}
 use Rattle.machine_laws.proofs.Replies.{asked_in, answer_in, handed_grows}
 use Rattle.machine_laws.proofs.Stores.{interface_grows}
 use Rattle.jx_model.proofs.Growing.{moment, before_admitted}
+use Rattle.std.specs.Option.{option_and_then}
 
 module _ (s : System) (new : Past) where
   -- a reply in its ranges
@@ -86,8 +87,8 @@ module _ (s : System) (new : Past) where
   job_in past None h = tt
   job_in past (Some a) h = h a refl
 
-  resumed_in : (o : Option Answer) → ((p : Parcel) → (o ≡ Some (Answer.Value p)) ⊎ (o ≡ Some (Answer.Thrown p)) → IsHanded s new p) → I (or_done (and_then o answer_reply))
-  unfolding or_done and_then answer_reply
+  resumed_in : (o : Option Answer) → ((p : Parcel) → (o ≡ Some (Answer.Value p)) ⊎ (o ≡ Some (Answer.Thrown p)) → IsHanded s new p) → I (or_done (option_and_then answer_reply o))
+  unfolding or_done answer_reply
   resumed_in None h = tt
   resumed_in (Some (Answer.Value p)) h = h p (inl refl)
   resumed_in (Some (Answer.Thrown p)) h = h p (inr refl)

@@ -11,11 +11,11 @@ use Rattle.jx_base.specs.declared.value.Node.{Node}
 use Rattle.jx_base.specs.declared.value.Parcel.{Parcel}
 use Rattle.jx_base.specs.declared.value.Word.{Word}
 use Rattle.jx_base.specs.declared.value.Word.TheVariants as word
-use Rattle.jx_base.specs.Basics.{mapped}
 use Rattle.program_model.specs.BuiltIn.{string_class, builder_class}
 use Rattle.jx_base.specs.Histories.{Past}
 use Rattle.jx_model.specs.Portals.{interface_of}
 use Rattle.jx_model.specs.WellMade.{IsParcelIn}
+use Rattle.std.specs.Option.{option_map}
 
 -- an int of sixteen bits without a sign
 abbrev pub IsUnitWord : Word → Type 0
@@ -24,7 +24,7 @@ IsUnitWord _ = ⊥
 
 -- a String, where it is a node
 abbrev pub IsTextWord : List Node → Word → Type 0
-IsTextWord nodes (word.Node k) = mapped (λ n. n.class.0) (slice_get nodes k) ≡ Some string_class
+IsTextWord nodes (word.Node k) = option_map (λ n. n.class.0) (slice_get nodes k) ≡ Some string_class
 IsTextWord nodes _ = Unit {0}
 
 -- a String's cells are units, and what a StringBuilder refers to is a String

@@ -22,7 +22,6 @@ use Rattle.jx_base.specs.declared.row.Row.TheVariants as row
 use Rattle.jx_base.specs.declared.value.Parcel.{Parcel}
 use Rattle.jx_base.specs.declared.value.Value.{Value}
 use Rattle.jx_base.specs.declared.value.Value.TheVariants as value
-use Rattle.jx_base.specs.Basics.{and_then, mapped, or_zero}
 use Rattle.program_model.specs.Types.{Signature, signature_of, is_void}
 use Rattle.program_model.specs.BuiltIn.{throwable_class, copy_exception, ended_exception, dropped_exception, revoked_exception, range_exception, refused_exception}
 use Rattle.class_grammar.specs.Opcodes.{row_at}
@@ -36,6 +35,7 @@ use Rattle.machine_model.specs.BuiltInMethods.{BuiltInOutcome, built_in_outcome}
 use Rattle.machine_model.specs.BuiltInMethods.{BuiltInOutcome as built_in}
 use Rattle.machine_model.specs.ObjectRows.{all_fit, fits_class, with_result}
 use Rattle.machine_model.specs.MachineThreads.{thread_at, with_thread, with_store, at_rest, with_less_fuel, idle_thread, with_frames, with_stage, after_throw, after_raise, after_begin}
+use Rattle.std.specs.Option.{option_and_then, option_map, unwrap_or}
 
 -- ---- the call that a frame is at
 
@@ -51,20 +51,20 @@ site_for kind x = record { takes = 1 + length x.parameters; result = x.result }
 
 -- the call of a resolved method
 unfoldable pub site_at : System → Row → Resolved → Option Site
-site_at s (row.Invoke kind) (resolved.Method m) = mapped (λ y. site_for kind (signature_of y.descriptor)) (selector_of_method s m)
+site_at s (row.Invoke kind) (resolved.Method m) = option_map (λ y. site_for kind (signature_of y.descriptor)) (selector_of_method s m)
 site_at s r x = None
 
 -- the call that an instruction of class c is
 unfoldable pub site_in : System → ℕ → Instr → Option Site
-site_in s c i = and_then (constant_at s c (index_operand i 0)) (site_at s (row_at i.opcode))
+site_in s c i = option_and_then (site_at s (row_at i.opcode)) (constant_at s c (index_operand i 0))
 
 -- the call that a frame is at
 unfoldable pub site_of : System → Frame → Option Site
-site_of s f = and_then (instruction_at (code_bytes s f) f.pc) (λ r. site_in s (class_of_frame s f) r.instr)
+site_of s f = option_and_then (λ r. site_in s (class_of_frame s f) r.instr) (instruction_at (code_bytes s f) f.pc)
 
 -- how many values it takes
 unfoldable pub taken_at : System → Frame → ℕ
-taken_at s f = or_zero (mapped (λ x. x.takes) (site_of s f))
+taken_at s f = unwrap_or (option_map (λ x. x.takes) (site_of s f)) 0
 
 -- the type of its result, none of void
 unfoldable pub result_types : System → Frame → List (List ℕ)
@@ -83,7 +83,7 @@ after_result s st t x v = by x.frames
 -- the two halves of a split as an array, for which there may be no room
 unfoldable pub after_split : System → State → ℕ → Thread → List Value → State
 after_split s st t x halves =
-    elim (new_object st.store (or_zero (class_named s (codes "[Ljx/Memory;"))) halves) [
+    elim (new_object st.store (unwrap_or (class_named s (codes "[Ljx/Memory;")) 0) halves) [
       | None ↦ after_throw s st t x 0
       | Some y ↦ after_result s (with_store st y.0) t x (Some (value.Ref y.1))
     ]
@@ -126,7 +126,7 @@ root_values store p = map (value_of (length store.objects)) p.roots
 
 -- the object of a service
 unfoldable pub service_object : Store → ServiceId → Option ℕ
-service_object store service = mapped (λ x. x.object) (find (λ x. x.service.0 == service.0) store.exports)
+service_object store service = option_map (λ x. x.object) (find (λ x. x.service.0 == service.0) store.exports)
 
 -- what a built-in method leaves of a thread that runs nothing else
 unfoldable pub after_built_in : System → State → ℕ → Thread → BuiltInOutcome → State
@@ -147,7 +147,7 @@ after_selection s st t x m arguments = elim (method_at s m) [
 -- the method that a call's selector selects at the service's object, with that object
 unfoldable pub selected_at : System → Store → ServiceId → MethodId → Option (ℕ × ℕ)
 selected_at s store service method =
-    and_then (service_object store service) (λ r. and_then (class_of_object store r) (λ c. mapped (λ m. (m, r)) (selected_method s c method.0)))
+    option_and_then (λ r. option_and_then (λ c. option_map (λ m. (m, r)) (selected_method s c method.0)) (class_of_object store r)) (service_object store service)
 
 -- the call begins with the roots as arguments
 unfoldable pub after_roots : System → State → ℕ → Thread → ServiceId → MethodId → List Value → State
@@ -220,7 +220,7 @@ object_of_value _ = 0
 
 -- the object of an export: the first of the three arguments on the stack
 unfoldable pub exported_object : Thread → ℕ
-exported_object x = or_zero (and_then (slice_get x.frames 0) (λ f. mapped object_of_value (slice_get f.stack.values 2)))
+exported_object x = unwrap_or (option_and_then (λ f. option_map object_of_value (slice_get f.stack.values 2)) (slice_get x.frames 0)) 0
 
 -- the state with a service of that object and as many idle threads
 unfoldable pub with_export : State → ℕ → ServiceId → ClassId → ℕ → State

@@ -11,7 +11,7 @@ use Rattle.jx_base.specs.declared.program.Selector.{Selector}
 use Rattle.jx_base.specs.declared.program.System.{System}
 use Rattle.jx_base.specs.declared.value.Value.{Value}
 use Rattle.jx_base.specs.declared.value.Value.TheVariants as value
-use Rattle.jx_base.specs.Basics.{and_then, passes, not_below_zero}
+use Rattle.jx_base.specs.Basics.{passes, not_below_zero}
 use Rattle.program_model.specs.Types.{cut_to_type}
 use Rattle.program_model.specs.BuiltIn.{object_class, string_class, builder_class, throwable_class, portal_class, zero_class, memory_class, null_pointer_exception, string_index_exception, range_exception, class_cast_exception}
 use Rattle.program_model.specs.Lookup.{class_named, is_interface, is_below, selector_at}
@@ -19,6 +19,7 @@ use Rattle.machine_model.specs.NumericRows.{is_same}
 use Rattle.machine_model.specs.State.{Store, class_of_object, cells_of, with_cell, new_object}
 use Rattle.program_model.specs.Limits.{text_limit, thread_limit}
 use Rattle.program_model.specs.Ranges.{is_service_name}
+use Rattle.std.specs.Option.{option_and_then}
 
 -- what a built-in method comes to: a result, an act, an exception of a class, object 0 for want of room, or values that no linked call passes
 pub data BuiltInOutcome : Type 0 where
@@ -206,12 +207,12 @@ bind s store _ = Unfit
 
 -- the interface of that name, where the class implements it
 unfoldable pub interface_named : System → ℕ → List ℕ → Option ℕ
-interface_named s c name = and_then (class_named s name) (λ i. if is_interface s i && is_below s c i then Some i else None)
+interface_named s c name = option_and_then (λ i. if is_interface s i && is_below s c i then Some i else None) (class_named s name)
 
 -- the export of an object under the interface of that name; a portal or a memory object can't be exported
 unfoldable pub export_of : System → Store → Value → List ℕ → ℤ → BuiltInOutcome
 export_of s store (value.Ref r) name threads =
-    elim (and_then (class_of_object store r) (λ c. interface_named s c name)) [
+    elim (option_and_then (λ c. interface_named s c name) (class_of_object store r)) [
       | None ↦ Raises class_cast_exception
       | Some i ↦ Performs (act.Export (record { 0 = i }) (not_below_zero threads))
     ]
@@ -355,7 +356,7 @@ is_of x m = bytes_eq m.name x.name && bytes_eq m.descriptor x.descriptor
 -- what a built-in method of the system does with these arguments
 unfoldable pub built_in_outcome : System → Store → Method → List Value → BuiltInOutcome
 built_in_outcome s store m args =
-    elim (and_then (selector_at s m.selector.0) (λ x. find (is_of x) (effects_of m.class.0))) [
+    elim (option_and_then (λ x. find (is_of x) (effects_of m.class.0)) (selector_at s m.selector.0)) [
       | None ↦ Unfit
       | Some b ↦ b.effect s store args
     ]

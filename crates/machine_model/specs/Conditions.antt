@@ -8,19 +8,19 @@ use Rattle.jx_base.specs.declared.program.Resolved.TheVariants as resolved
 use Rattle.jx_base.specs.declared.frame.Frame.{Frame}
 use Rattle.jx_base.specs.declared.value.Value.{Value}
 use Rattle.jx_base.specs.declared.value.Value.TheVariants as value
-use Rattle.jx_base.specs.Basics.{and_then, mapped, or_zero}
 use Rattle.program_model.specs.BuiltIn.{string_class}
 use Rattle.program_model.specs.Instructions.{index_operand}
 use Rattle.program_model.specs.Lookup.{class_at, class_count, method_at, constant_at}
 use Rattle.program_model.specs.Parcels.{HeapObject}
 use Rattle.machine_model.specs.NumericRows.{depth_of}
 use Rattle.machine_model.specs.State.{Store, Core, code_of, stack_limit, class_of_frame}
+use Rattle.std.specs.Option.{option_and_then, option_map, unwrap_or}
 
 -- ---- of a frame
 
 -- how many locals a frame has
 unfoldable pub local_count : System → Frame → ℕ
-local_count s f = or_zero (mapped (λ c. c.max_locals) (code_of s f.method))
+local_count s f = unwrap_or (option_map (λ c. c.max_locals) (code_of s f.method)) 0
 
 -- the frame is of a method with code, with its locals, and with a stack that is within its limit and has room up to it
 pub record IsFrameOf (s : System) (f : Frame) : Type 0 where
@@ -78,7 +78,7 @@ static_of _ = None
 
 -- the static field that an instruction at a frame names
 unfoldable pub static_named : System → Frame → Instr → Option ℕ
-static_named s f i = and_then (constant_at s (class_of_frame s f) (index_operand i 0)) static_of
+static_named s f i = option_and_then static_of (constant_at s (class_of_frame s f) (index_operand i 0))
 
 -- the core is one that a domain of the system can have
 pub record IsCoreOf (s : System) (core : Core) : Type 0 where

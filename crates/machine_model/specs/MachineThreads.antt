@@ -6,10 +6,11 @@ use Rattle.jx_base.specs.declared.program.Selector.{Selector}
 use Rattle.jx_base.specs.declared.frame.Frame.{Frame}
 use Rattle.jx_base.specs.declared.value.Value.{Value}
 use Rattle.jx_base.specs.declared.value.Value.TheVariants as value
-use Rattle.jx_base.specs.Basics.{passes, or_zero}
+use Rattle.jx_base.specs.Basics.{passes}
 use Rattle.program_model.specs.BuiltIn.{stack_overflow_error}
 use Rattle.program_model.specs.Lookup.{selector_of_method}
 use Rattle.machine_model.specs.State.{Store, Core, Stage, Going, Returned, Threw, Bad, Thread, State, class_of_object, new_exception, frame_of, is_overflow, frames_at_handler, is_overfull}
+use Rattle.std.specs.Option.{unwrap_or}
 
 -- ---- parts of a state
 
@@ -54,7 +55,7 @@ with_stage st t x stage = with_thread st t (record x { frames = []; stage = stag
 
 -- the state in which an object is thrown at a thread's frames
 unfoldable pub after_throw : System → State → ℕ → Thread → ℕ → State
-after_throw s st t x r = caught (frames_at_handler s (or_zero (class_of_object st.store r)) r x.frames)
+after_throw s st t x r = caught (frames_at_handler s (unwrap_or (class_of_object st.store r) 0) r x.frames)
   where
     caught : List Frame → State
     caught [] = with_stage st t x (Threw r)

@@ -22,12 +22,12 @@ use Rattle.jx_base.specs.declared.row.Shift.{Shift}
 use Rattle.jx_base.specs.declared.row.Conversion.{Conversion}
 use Rattle.jx_base.specs.declared.row.Conversion.TheVariants as conversion
 use Rattle.jx_base.specs.declared.row.Comparison.{Comparison}
-use Rattle.jx_base.specs.Basics.{and_then, mapped}
 use Rattle.class_grammar.specs.Opcodes.{row_at}
 use Rattle.program_model.specs.Instructions.{operand, index_operand}
 use Rattle.program_model.specs.Arithmetic.{operation_result, negation, quotient_or_none, int_shift_result, long_shift_result, low_bits, low_char, is_met, order_of}
 use Rattle.program_model.specs.BuiltIn.{arithmetic_exception}
 use Rattle.program_model.specs.Lookup.{constant_at}
+use Rattle.std.specs.Option.{option_and_then, option_map}
 
 -- a frame's locals, of which one may be unset
 abbrev pub Locals : Type 0
@@ -87,15 +87,15 @@ top stack = slice_get stack 0
 
 -- the int on the top
 unfoldable pub top_int : Stack → Option ℤ
-top_int stack = and_then (top stack) int_of
+top_int stack = option_and_then int_of (top stack)
 
 -- the long on the top
 unfoldable pub top_long : Stack → Option ℤ
-top_long stack = and_then (top stack) long_of
+top_long stack = option_and_then long_of (top stack)
 
 -- the reference on the top
 unfoldable pub top_reference : Stack → Option Value
-top_reference stack = and_then (top stack) as_reference
+top_reference stack = option_and_then as_reference (top stack)
 
 -- a value that fills one slot, as a group
 unfoldable pub single : Value → Option Stack
@@ -105,13 +105,13 @@ single v = Some (v ∷ [])
 -- a long, or a value that fills one slot with another such below it
 unfoldable pub double : Stack → Value → Option Stack
 double below (value.Long n) = Some (value.Long n ∷ [])
-double below v = mapped (λ others. v ∷ others) (and_then (top below) single)
+double below v = option_map (λ others. v ∷ others) (option_and_then single (top below))
 
 -- the values on the top that fill so many slots
 unfoldable pub group_of : Slots → Stack → Option Stack
 group_of slots.Zero stack = Some []
-group_of slots.One stack = and_then (top stack) single
-group_of slots.Two stack = and_then (top stack) (double (drop 1 stack))
+group_of slots.One stack = option_and_then single (top stack)
+group_of slots.Two stack = option_and_then (double (drop 1 stack)) (top stack)
 
 -- ---- outcomes
 
@@ -132,7 +132,7 @@ branches test to locals stack = if test then Jump to locals stack else Next loca
 
 -- the value of a local: of a long the second local exists too
 unfoldable pub local_of : Locals → ℕ → Option Value
-local_of locals n = and_then (option_flatten (slice_get locals n)) (λ v. if nat_le (n + slots_of v) (length locals) then Some v else None)
+local_of locals n = option_and_then (λ v. if nat_le (n + slots_of v) (length locals) then Some v else None) (option_flatten (slice_get locals n))
 
 -- the locals with that one set: behind a long the second one is unset
 unfoldable pub set_local : Locals → ℕ → Value → Locals
@@ -152,12 +152,12 @@ place_of (local.Fixed n) i = n
 
 -- a local of that kind is pushed
 unfoldable pub load_row : ℕ → Kind → ℕ → Locals → Stack → NumericOutcome
-load_row most k n locals stack = given (and_then (local_of locals n) (as_kind k)) (λ v. leaves most locals (v ∷ stack))
+load_row most k n locals stack = given (option_and_then (as_kind k) (local_of locals n)) (λ v. leaves most locals (v ∷ stack))
 
 -- the top, of that kind, goes to a local
 unfoldable pub store_row : Kind → ℕ → Locals → Stack → NumericOutcome
 store_row k n locals stack =
-    given (and_then (top stack) (as_kind k)) (λ v. given (with_local locals n v) (λ new. Next new (drop 1 stack)))
+    given (option_and_then (as_kind k) (top stack)) (λ v. given (with_local locals n v) (λ new. Next new (drop 1 stack)))
 
 -- so many slots are taken off
 unfoldable pub discard_row : Slots → Locals → Stack → NumericOutcome
@@ -217,7 +217,7 @@ negate_row most k locals stack = given (top_long stack) (λ a. leaves most local
 -- a local int is raised by a number, and wraps
 unfoldable pub increment_row : ℕ → ℤ → Locals → Stack → NumericOutcome
 increment_row n by locals stack =
-    given (and_then (local_of locals n) int_of) (λ k. Next (slice_set locals n (Some (value.Int (int_wrap w32 (k +ℤ by))))) stack)
+    given (option_and_then int_of (local_of locals n)) (λ k. Next (slice_set locals n (Some (value.Int (int_wrap w32 (k +ℤ by))))) stack)
 
 -- the number on the top is converted
 unfoldable pub convert_row : ℕ → Conversion → Locals → Stack → NumericOutcome
@@ -332,17 +332,17 @@ branching_row row.LookupSwitch i locals stack = lookup_row i locals stack
 branching_row _ i locals stack = NotMine
 
 -- another outcome where the row is not one of these
-unfoldable pub or_else : NumericOutcome → NumericOutcome → NumericOutcome
-or_else NotMine other = other
-or_else outcome other = outcome
+unfoldable pub outcome_or : NumericOutcome → NumericOutcome → NumericOutcome
+outcome_or NotMine other = other
+outcome_or outcome other = outcome
 
 -- what an instruction does to a frame, in a method of class c whose stack has so many slots at most
 unfoldable pub numeric_row : System → ℕ → ℕ → Instr → Locals → Stack → NumericOutcome
 numeric_row s c most i locals stack =
     let r : Row = row_at i.opcode in
-    or_else (moving_row s c most r i locals stack) (or_else (arithmetic_row most r i locals stack) (branching_row r i locals stack))
+    outcome_or (moving_row s c most r i locals stack) (outcome_or (arithmetic_row most r i locals stack) (branching_row r i locals stack))
 
 -- what a computed row opens
 unfoldable pub opened_numeric_rows : Unit {0}
-unfolding slots_of depth_of as_reference as_kind int_of long_of top top_int top_long top_reference single double group_of given leaves branches local_of set_local with_local place_of load_row store_row discard_row copy_row swap_row on_ints on_longs unless_by_zero int_divide_row long_divide_row long_shift_row negate_row increment_row convert_row is_wanted is_null is_same if_zero_row if_ints_row if_same_row if_null_row table_place table_row target_of lookup_row long_constant moving_row arithmetic_row branching_row or_else numeric_row
+unfolding slots_of depth_of as_reference as_kind int_of long_of top top_int top_long top_reference single double group_of given leaves branches local_of set_local with_local place_of load_row store_row discard_row copy_row swap_row on_ints on_longs unless_by_zero int_divide_row long_divide_row long_shift_row negate_row increment_row convert_row is_wanted is_null is_same if_zero_row if_ints_row if_same_row if_null_row table_place table_row target_of lookup_row long_constant moving_row arithmetic_row branching_row outcome_or numeric_row
 opened_numeric_rows = tt

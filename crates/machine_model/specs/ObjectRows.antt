@@ -21,7 +21,7 @@ use Rattle.jx_base.specs.declared.row.Element.{Element}
 use Rattle.jx_base.specs.declared.row.Element.TheVariants as element
 use Rattle.jx_base.specs.declared.row.Invocation.{Invocation}
 use Rattle.jx_base.specs.declared.row.Invocation.TheVariants as invocation
-use Rattle.jx_base.specs.Basics.{and_then, mapped, passes, not_below_zero}
+use Rattle.jx_base.specs.Basics.{passes, not_below_zero}
 use Rattle.program_model.specs.Types.{signature_of, is_void, is_reference_type, element_type}
 use Rattle.program_model.specs.BuiltIn.{string_class, throwable_class, null_pointer_exception, array_index_exception, negative_size_exception, class_cast_exception, array_store_exception, stack_overflow_error, copy_exception}
 use Rattle.class_grammar.specs.Opcodes.{row_at}
@@ -33,6 +33,7 @@ use Rattle.machine_model.specs.NumericRows.{Stack, as_kind, is_null}
 use Rattle.machine_model.specs.State.{Store, Core, class_of_object, shape_of, class_of_shape, default_of, kept_value, new_object, new_array, default_cells, cells_of, with_cell, static_types, class_of_frame, with_values, frame_behind, with_running, is_overfull, frame_of, is_overflow}
 use Rattle.machine_model.specs.BuiltInMethods.{BuiltInOutcome, built_in_outcome, text_cells, int_of_bool}
 use Rattle.machine_model.specs.BuiltInMethods.{BuiltInOutcome as built_in}
+use Rattle.std.specs.Option.{option_and_then, option_map}
 
 -- what an object row makes of the core. `Raise` has the class of an exception that the machine makes, `Raised` an object that is thrown; after a `Finish` no frame is left
 pub data ObjectOutcome : Type 0 where
@@ -68,7 +69,7 @@ leaves_new s core stack (Some x) = leaves s core x.0 (value.Ref x.1 ∷ stack)
 
 -- the String object that ldc made of a text
 unfoldable pub literal_of : List (List ℕ × ℕ) → List ℕ → Option ℕ
-literal_of literals text = mapped (λ x. x.1) (find (λ x. bytes_eq x.0 text) literals)
+literal_of literals text = option_map (λ x. x.1) (find (λ x. bytes_eq x.0 text) literals)
 
 -- the store that knows one text more
 unfoldable pub with_literal : List ℕ → Store × ℕ → Store × ℕ
@@ -78,7 +79,7 @@ with_literal text x = (record x.0 { literals = x.0.literals ++ (text, x.1) ∷ [
 unfoldable pub text_row : System → Core → List ℕ → Stack → ObjectOutcome
 text_row s core text stack = elim (literal_of core.store.literals text) [
   | Some r ↦ leaves s core core.store (value.Ref r ∷ stack)
-  | None ↦ leaves_new s core stack (mapped (with_literal text) (new_object core.store string_class (text_cells text)))
+  | None ↦ leaves_new s core stack (option_map (with_literal text) (new_object core.store string_class (text_cells text)))
 ]
 
 -- an Integer or a text is pushed
@@ -106,11 +107,11 @@ kind_of _ = kind.Int
 
 -- the type of an array object's elements
 unfoldable pub component_of : System → Store → ℕ → Option (List ℕ)
-component_of s store r = and_then (and_then (class_of_object store r) (class_at s)) (λ k. k.component)
+component_of s store r = option_and_then (λ k. k.component) (option_and_then (class_at s) (class_of_object store r))
 
 -- the component of an array object that holds such elements
 unfoldable pub component_for : System → Store → Element → ℕ → Option (List ℕ)
-component_for s store e r = and_then (component_of s store r) (λ type. if is_element_type e type then Some type else None)
+component_for s store e r = option_and_then (λ type. if is_element_type e type then Some type else None) (component_of s store r)
 
 -- an index as a place among so many
 unfoldable pub place_in : ℤ → ℕ → Option ℕ
@@ -184,13 +185,13 @@ with_all_elements make n x = elim x.array [ None ↦ x | Some r ↦ with_element
 unfoldable pub nested_arrays : System → List ℕ → List ℕ → Store → Making
 nested_arrays s [] name store = record { store = store; array = None }
 nested_arrays s (n ∷ lengths) name store =
-    let x : Making = making_of store (and_then (class_named s name) (λ c. new_array store c n (default_of (drop 1 name)))) in
+    let x : Making = making_of store (option_and_then (λ c. new_array store c n (default_of (drop 1 name))) (class_named s name)) in
     elim lengths [ [] ↦ x | m ∷ more ↦ with_all_elements (nested_arrays s lengths (drop 1 name)) n x ]
 
 -- the ints of these values
 unfoldable pub ints_of : List Value → Option (List ℤ)
 ints_of [] = Some []
-ints_of (value.Int n ∷ vs) = mapped (λ ns. n ∷ ns) (ints_of vs)
+ints_of (value.Int n ∷ vs) = option_map (λ ns. n ∷ ns) (ints_of vs)
 ints_of _ = None
 
 -- whether one is below 0
@@ -213,7 +214,7 @@ multi_array_row s core type dimensions stack =
 
 -- the type of the field at a place of class c's layout
 unfoldable pub field_type : System → ℕ → ℕ → Option (List ℕ)
-field_type s c i = and_then (class_at s c) (λ k. mapped (λ f. f.descriptor) (slice_get k.fields i))
+field_type s c i = option_and_then (λ k. option_map (λ f. f.descriptor) (slice_get k.fields i)) (class_at s c)
 
 -- whether the object is of class c or below it
 unfoldable pub is_object_of : System → Store → ℕ → ℕ → Bool
@@ -234,7 +235,7 @@ fitting_value s store v type = if shape_fits s true (shape_of store v) type then
 
 -- a value and an object are taken
 unfoldable pub put_field_row : System → Core → ℕ → ℕ → Stack → ObjectOutcome
-put_field_row s core c i (v ∷ o ∷ rest) = given (and_then (field_type s c i) (fitting_value s core.store v)) (λ x. into x o)
+put_field_row s core c i (v ∷ o ∷ rest) = given (option_and_then (fitting_value s core.store v) (field_type s c i)) (λ x. into x o)
   where
     into : Value → Value → ObjectOutcome
     into x value.Null = Raise null_pointer_exception
@@ -250,7 +251,7 @@ get_static_row s core i stack = given (slice_get core.store.statics i) (λ v. le
 unfoldable pub put_static_row : System → Core → ℕ → Stack → ObjectOutcome
 put_static_row s core i [] = BadCode
 put_static_row s core i (v ∷ rest) =
-    given (and_then (slice_get (static_types s) i) (fitting_value s core.store v)) (λ x.
+    given (option_and_then (fitting_value s core.store v) (slice_get (static_types s) i)) (λ x.
     leaves s core (record core.store { statics = slice_set core.store.statics i x }) rest)
 
 -- ---- classes
@@ -347,7 +348,7 @@ portal_row core service m arguments =
 -- the method of that selector that the object's class gives runs
 unfoldable pub selected_row : System → Core → Method → Value → Taken → ObjectOutcome
 selected_row s core k o x =
-    given (and_then (class_of_shape (shape_of core.store o)) (λ c. selected_method s c k.selector.0)) (λ m. run_row s core m x)
+    given (option_and_then (λ c. selected_method s c k.selector.0) (class_of_shape (shape_of core.store o))) (λ m. run_row s core m x)
 
 -- the method found runs, or the one selected, or a call goes through a portal
 unfoldable pub invoke_at : System → Core → Invocation → ℕ → Method → Value → Taken → ObjectOutcome
@@ -376,7 +377,7 @@ invoke_row s core kind m stack =
 -- the type of the result of the running frame's method
 unfoldable pub result_of : System → List Frame → Option (List ℕ)
 result_of s [] = None
-result_of s (f ∷ frames) = mapped (λ y. (signature_of y.descriptor).result) (selector_of_method s f.method)
+result_of s (f ∷ frames) = option_map (λ y. (signature_of y.descriptor).result) (selector_of_method s f.method)
 
 -- the running frame goes; the one below goes on behind its call, with the result
 unfoldable pub return_row : System → Core → Option Value → ObjectOutcome
@@ -402,11 +403,11 @@ return_void_row s core = given (result_of s core.frames) (λ type. if is_void ty
 
 -- the name of that class
 unfoldable pub name_of_class : System → ℕ → Option (List ℕ)
-name_of_class s c = mapped (λ k. k.name) (class_at s c)
+name_of_class s c = option_map (λ k. k.name) (class_at s c)
 
 -- the type of that class
 unfoldable pub type_of : System → ℕ → Option (List ℕ)
-type_of s c = mapped type_of_class (class_at s c)
+type_of s c = option_map type_of_class (class_at s c)
 
 -- the rows of classes and arrays, at the class that the constant is
 unfoldable pub class_row : System → Core → Row → Instr → ℕ → Stack → ObjectOutcome

@@ -9,7 +9,6 @@ use Rattle.jx_base.specs.declared.frame.Frame.{Frame}
 use Rattle.jx_base.specs.declared.value.Parcel.{Parcel}
 use Rattle.jx_base.specs.declared.value.Value.{Value}
 use Rattle.jx_base.specs.declared.value.Value.TheVariants as value
-use Rattle.jx_base.specs.Basics.{mapped}
 use Rattle.program_model.specs.Instructions.{Reading, instruction_at}
 use Rattle.program_model.specs.Parcels.{packed}
 use Rattle.machine_model.specs.NumericRows.{NumericOutcome, numeric_row}
@@ -18,6 +17,7 @@ use Rattle.machine_model.specs.State.{Stage, Going, Returned, Threw, Thread, Sta
 use Rattle.machine_model.specs.ObjectRows.{ObjectOutcome, object_row}
 use Rattle.machine_model.specs.ObjectRows.{ObjectOutcome as object}
 use Rattle.machine_model.specs.MachineThreads.{thread_at, with_thread, with_store, with_less_fuel, core_of, after_throw, after_raise, after_finish}
+use Rattle.std.specs.Option.{option_map}
 
 -- what one step of the running thread comes to: the state after an instruction, or the act that comes next
 pub data Outcome : Type 0 where
@@ -85,7 +85,7 @@ unfoldable pub ending_act : State → Thread → Stage → Act
 ending_act st x (Returned v) = elim x.call [ None ↦ act.EndThread None | Some c ↦ answer_act st c (λ p. act.Return c p) (result_roots v) ]
 ending_act st x (Threw r) =
     elim x.call [
-      | None ↦ act.EndThread (mapped (λ c. record { 0 = c }) (class_of_object st.store r))
+      | None ↦ act.EndThread (option_map (λ c. record { 0 = c }) (class_of_object st.store r))
       | Some c ↦ answer_act st c (λ p. act.Throw c p) (value.Ref r ∷ [])
     ]
 ending_act st x _ = act.End reason.BadCode

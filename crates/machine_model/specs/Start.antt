@@ -8,13 +8,14 @@ use Rattle.jx_base.specs.declared.program.Selector.{Selector}
 use Rattle.jx_base.specs.declared.program.Template.{Template}
 use Rattle.jx_base.specs.declared.value.Value.{Value}
 use Rattle.jx_base.specs.declared.value.Value.TheVariants as value
-use Rattle.jx_base.specs.Basics.{passes, or_zero, firsts}
+use Rattle.jx_base.specs.Basics.{passes, firsts}
 use Rattle.program_model.specs.BuiltIn.{built_in_count, out_of_memory_error}
 use Rattle.class_grammar.specs.Flags.{is_static}
 use Rattle.program_model.specs.Lookup.{is_built_in, class_named, chain_of, method_at, selector_of_method}
 use Rattle.program_model.specs.Parcels.{HeapObject}
 use Rattle.machine_model.specs.State.{Store, State, default_of, static_types}
 use Rattle.machine_model.specs.MachineThreads.{idle_thread, is_initializer_selector, after_finish}
+use Rattle.std.specs.Option.{unwrap_or}
 
 -- ---- the methods that thread 0 runs
 
@@ -57,7 +58,7 @@ object_of c cells = record { class = record { 0 = c }; cells = cells }
 -- the object that is thrown for want of room, and the empty String[] that main is passed
 unfoldable pub first_objects : System → List HeapObject
 first_objects s =
-    object_of out_of_memory_error (value.Null ∷ []) ∷ object_of (or_zero (class_named s (codes "[Ljava/lang/String;"))) [] ∷ []
+    object_of out_of_memory_error (value.Null ∷ []) ∷ object_of (unwrap_or (class_named s (codes "[Ljava/lang/String;")) 0) [] ∷ []
 
 -- the first store: its objects take five cells, and each static field has its default
 unfoldable pub first_store : System → Template → Store

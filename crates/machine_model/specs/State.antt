@@ -11,13 +11,14 @@ use Rattle.jx_base.specs.declared.program.Class.{Class}
 use Rattle.jx_base.specs.declared.program.Resolved.{Resolved}
 use Rattle.jx_base.specs.declared.program.Resolved.TheVariants as resolved
 use Rattle.jx_base.specs.declared.frame.Frame.{Frame}
-use Rattle.jx_base.specs.Basics.{and_then, mapped, passes, or_zero}
+use Rattle.jx_base.specs.Basics.{passes}
 use Rattle.program_model.specs.Types.{is_int_type, is_long_type, cut_to_type}
 use Rattle.program_model.specs.BuiltIn.{memory_class}
 use Rattle.program_model.specs.Instructions.{instruction_at}
 use Rattle.program_model.specs.Lookup.{class_at, method_at, class_fits, constant_at, Shape, IntShape, LongShape, NullShape, ObjectShape, PortalShape, Unknown}
 use Rattle.program_model.specs.Parcels.{HeapObject}
 use Rattle.machine_model.specs.NumericRows.{Locals, Stack, slots_of, depth_of, with_local}
+use Rattle.std.specs.Option.{option_and_then, option_map, unwrap_or}
 
 -- what all threads of a domain share. `left` is the cells that are left; `literals` has the String object of each text that ldc has made
 pub record Store : Type 0 where
@@ -57,7 +58,7 @@ pub record State : Type 0 where
 
 -- the class of an object
 unfoldable pub class_of_object : Store → ℕ → Option ℕ
-class_of_object store r = mapped (λ o. o.class.0) (slice_get store.objects r)
+class_of_object store r = option_map (λ o. o.class.0) (slice_get store.objects r)
 
 -- what decides which types a value fits
 unfoldable pub shape_of : Store → Value → Shape
@@ -135,7 +136,7 @@ static_types s = static_types_of s.program.classes
 
 -- the code of a method
 unfoldable pub code_of : System → ℕ → Option Code
-code_of s m = and_then (method_at s m) (λ x. x.code)
+code_of s m = option_and_then (λ x. x.code) (method_at s m)
 
 -- the bytes of a frame's code
 unfoldable pub code_bytes : System → Frame → List ℕ
@@ -143,11 +144,11 @@ code_bytes s f = elim (code_of s f.method) [ None ↦ [] | Some c ↦ c.code ]
 
 -- how many slots a frame's stack has at most
 unfoldable pub stack_limit : System → Frame → ℕ
-stack_limit s f = or_zero (mapped (λ c. c.max_stack) (code_of s f.method))
+stack_limit s f = unwrap_or (option_map (λ c. c.max_stack) (code_of s f.method)) 0
 
 -- the class whose method a frame runs
 unfoldable pub class_of_frame : System → Frame → ℕ
-class_of_frame s f = or_zero (mapped (λ m. m.class.0) (method_at s f.method))
+class_of_frame s f = unwrap_or (option_map (λ m. m.class.0) (method_at s f.method)) 0
 
 -- the place behind the instruction that a frame is at
 unfoldable pub pc_behind : System → Frame → ℕ
@@ -182,11 +183,11 @@ frame_with m c locals = record { method = m; pc = 0; locals = locals; stack = re
 -- the first frame of a method, where its arguments have room in its locals
 unfoldable pub frame_of : System → ℕ → List Value → Option Frame
 frame_of s m args =
-    and_then (code_of s m) (λ c. mapped (frame_with m c) (locals_with (replicate c.max_locals None) 0 args))
+    option_and_then (λ c. option_map (frame_with m c) (locals_with (replicate c.max_locals None) 0 args)) (code_of s m)
 
 -- how many slots a frame of the method fills
 unfoldable pub slots_of_method : System → ℕ → ℕ
-slots_of_method s m = or_zero (mapped (λ c. c.max_locals + c.max_stack) (code_of s m))
+slots_of_method s m = unwrap_or (option_map (λ c. c.max_locals + c.max_stack) (code_of s m)) 0
 
 -- how many frames a thread has at most
 unfoldable pub frame_limit : ℕ
@@ -216,7 +217,7 @@ is_handler_for s thrown f r =
 
 -- the first handler in a frame's method for an object of that class
 unfoldable pub handler_in : System → ℕ → Frame → Option ℕ
-handler_in s thrown f = and_then (code_of s f.method) (λ c. mapped (λ r. r.handler) (find (is_handler_for s thrown f) c.table))
+handler_in s thrown f = option_and_then (λ c. option_map (λ r. r.handler) (find (is_handler_for s thrown f) c.table)) (code_of s f.method)
 
 -- the frames from the first one on that catches the object, at its handler, with the object alone on its stack
 unfoldable pub frames_at_handler : System → ℕ → ℕ → List Frame → List Frame

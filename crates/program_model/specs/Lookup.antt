@@ -10,9 +10,10 @@ use Rattle.jx_base.specs.declared.program.Selector.{Selector}
 use Rattle.jx_base.specs.declared.program.Resolved.{Resolved}
 use Rattle.jx_base.specs.declared.program.Template.{Template}
 use Rattle.class_grammar.specs.Flags.{is_static, is_interface_flag}
-use Rattle.jx_base.specs.Basics.{first_some, and_then, passes, contains_number, is_number}
+use Rattle.jx_base.specs.Basics.{first_some, passes, contains_number, is_number}
 use Rattle.program_model.specs.Types.{is_long_type, is_int_type, is_reference_type}
 use Rattle.program_model.specs.BuiltIn.{string_class, portal_class, built_in_count}
+use Rattle.std.specs.Option.{option_and_then}
 
 -- ---- classes
 
@@ -101,7 +102,7 @@ cell_types k c n =
 unfoldable pub fits_type : System → ℕ → List ℕ → Bool
 fits_type s a [] = false
 fits_type s a (u ∷ type) = elim (u == 91) [
-  | true ↦ elim (and_then (class_at s a) (λ x. x.component)) [
+  | true ↦ elim (option_and_then (λ x. x.component) (class_at s a)) [
     | None ↦ false
     | Some from ↦ bytes_eq from type || passes (λ c. fits_type s c type) (class_of_type s from)
   ]
@@ -151,11 +152,11 @@ selector_at s n = slice_get s.program.selectors n
 
 -- the selector of a method
 unfoldable pub selector_of_method : System → ℕ → Option Selector
-selector_of_method s m = and_then (method_at s m) (λ x. selector_at s x.selector.0)
+selector_of_method s m = option_and_then (λ x. selector_at s x.selector.0) (method_at s m)
 
 -- what constant i of class c means
 unfoldable pub constant_at : System → ℕ → ℕ → Option Resolved
-constant_at s c i = and_then (class_at s c) (λ x. slice_get x.constants i)
+constant_at s c i = option_and_then (λ x. slice_get x.constants i) (class_at s c)
 
 -- equal name and equal descriptor
 unfoldable pub same_selector : Selector → Selector → Bool

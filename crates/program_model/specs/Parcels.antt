@@ -10,12 +10,13 @@ use Rattle.jx_base.specs.declared.value.Node.{Node}
 use Rattle.jx_base.specs.declared.value.Parcel.{Parcel}
 use Rattle.jx_base.specs.declared.states.Exported.{Exported}
 use Rattle.jx_base.specs.declared.program.System.{System}
-use Rattle.jx_base.specs.Basics.{passes, contains_number, firsts, or_zero}
+use Rattle.jx_base.specs.Basics.{passes, contains_number, firsts}
 use Rattle.program_model.specs.Limits.{node_limit, parcel_limit}
 use Rattle.program_model.specs.ParcelParts.{parcel_words}
 use Rattle.program_model.specs.Types.{lies_in_type}
 use Rattle.program_model.specs.BuiltIn.{built_in_count, memory_class}
 use Rattle.program_model.specs.Lookup.{class_at, lists_class, class_of_type, cell_types, Shape, IntShape, LongShape, NullShape, ObjectShape, PortalShape, Unknown, shape_fits}
+use Rattle.std.specs.Option.{unwrap_or}
 
 -- ---- the walk
 
@@ -86,7 +87,7 @@ word_of exports walk value.Null = word.Null
 word_of exports walk (value.Portal s c) = word.Portal s c
 word_of exports walk (value.Mem m) = word.Mem m
 word_of exports walk (value.Ref r) =
-    elim (export_at exports r) [ Some x ↦ word.Portal x.service x.iface | None ↦ word.Node (or_zero (position (λ y. y == r) walk)) ]
+    elim (export_at exports r) [ Some x ↦ word.Portal x.service x.iface | None ↦ word.Node (unwrap_or (position (λ y. y == r) walk) 0) ]
 
 -- an object as a node
 unfoldable pub node_of : List Exported → List ℕ → HeapObject → Node

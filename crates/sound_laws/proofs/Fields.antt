@@ -9,12 +9,13 @@ use Rattle.jx_base.specs.declared.program.System.{System}
 use Rattle.program_model.specs.BuiltIn.{built_in_count, built_in_table, object_class, string_class, builder_class, opened_built_in}
 use Rattle.program_model.specs.Lookup.{class_at, class_count, class_fits, class_named, class_of_type, fits_type, is_below, object_fits, parent_list, shape_fits, shape_fits_class, supers_of, supers_within, type_of_name, type_of_class, ObjectShape}
 use Rattle.machine_model.specs.ObjectRows.{field_type}
-use Rattle.jx_base.specs.Basics.{and_then, mapped, passes}
+use Rattle.jx_base.specs.Basics.{passes}
 use Rattle.jx_base.proofs.BasicLaws.{passed, eq_of}
 use Rattle.link_laws.specs.Linked.{IsLinkedFrom}
 use Rattle.link_laws.specs.Supers.{right_above}
 use Rattle.link_laws.proofs.Lists.{Among, from_flat, number_among, same_there}
 use Rattle.sound_laws.proofs.Tables.{built_in, named, fits_named, clash}
+use Rattle.std.specs.Option.{option_and_then, option_map}
 
 -- ---- what the table says
 
@@ -39,30 +40,30 @@ above_builder = refl
 
 -- the type of a field, where there is a class
 unfoldable type_in : Option Class → ℕ → Option (List ℕ)
-type_in o i = and_then o (λ k. mapped (λ f. f.descriptor) (slice_get k.fields i))
+type_in o i = option_and_then (λ k. option_map (λ f. f.descriptor) (slice_get k.fields i)) o
 
 -- java/lang/Object and String have no fields
 object_types : (i : ℕ) → type_in (slice_get built_in_table 0) i ≡ None
-unfolding type_in opened_built_in and_then mapped
+unfolding type_in opened_built_in
 object_types i = refl
 
 string_types : (i : ℕ) → type_in (slice_get built_in_table 1) i ≡ None
-unfolding type_in opened_built_in and_then mapped
+unfolding type_in opened_built_in
 string_types i = refl
 
 -- StringBuilder has one
 builder_types : (i : ℕ) (type : List ℕ) → type_in (slice_get built_in_table 2) i ≡ Some type → type ≡ codes "Ljava/lang/String;"
-unfolding type_in opened_built_in and_then mapped
+unfolding type_in opened_built_in
 builder_types zero type e = sym (same_there (codes "Ljava/lang/String;") type e)
 builder_types (suc i) type e = absurd cc
 
 -- they are no arrays
-string_plain : and_then (slice_get built_in_table 1) (λ (k : Class). k.component) ≡ None
-unfolding opened_built_in and_then
+string_plain : option_and_then (λ (k : Class). k.component) (slice_get built_in_table 1) ≡ None
+unfolding opened_built_in
 string_plain = refl
 
-builder_plain : and_then (slice_get built_in_table 2) (λ (k : Class). k.component) ≡ None
-unfolding opened_built_in and_then
+builder_plain : option_and_then (λ (k : Class). k.component) (slice_get built_in_table 2) ≡ None
+unfolding opened_built_in
 builder_plain = refl
 
 -- they are built in
@@ -79,7 +80,7 @@ unfolding built_in_count
 small_2 = omega arith
 
 -- nothing but an array fits an array's type
-no_array_fits : (s : System) (a u : ℕ) (units : List ℕ) → (u == 91) ≡ true → and_then (class_at s a) (λ (x : Class). x.component) ≡ None → fits_type s a (u ∷ units) ≡ false
+no_array_fits : (s : System) (a u : ℕ) (units : List ℕ) → (u == 91) ≡ true → option_and_then (λ (x : Class). x.component) (class_at s a) ≡ None → fits_type s a (u ∷ units) ≡ false
 unfolding fits_type
 no_array_fits s a u units e p =
     ap (λ n. fits_type s a (n ∷ units)) (eq_of u 91 e)
@@ -91,7 +92,7 @@ unfolding fits_type
 no_type s a = refl
 
 -- what is no array and fits the type of a class fits the class of that name
-named_fits : (s : System) (a : ℕ) (name : List ℕ) → and_then (class_at s a) (λ (x : Class). x.component) ≡ None → fits_type s a (type_of_name name) ≡ true → passes (is_below s a) (class_named s name) ≡ true
+named_fits : (s : System) (a : ℕ) (name : List ℕ) → option_and_then (λ (x : Class). x.component) (class_at s a) ≡ None → fits_type s a (type_of_name name) ≡ true → passes (is_below s a) (class_named s name) ≡ true
 unfolding type_of_name
 named_fits s a [] p h = absurd (clash (fits_type s a []) h (no_type s a))
 named_fits s a (u ∷ units) p h = by (u == 91) refl h
@@ -140,7 +141,7 @@ module _ (plan : Plan) (files : List ClassFile) (s : System) (from : IsLinkedFro
   builder_supers c h = elim (above_one (class_count s) 2 c small_2 above_builder (number_among (supers_within s (class_count s) 2) c h)) [ inl e ↦ inl (sym e) | inr e ↦ inr (sym e) ]
 
   -- what is no array and fits a class is below it
-  fits_below : (a c : ℕ) → and_then (class_at s a) (λ (x : Class). x.component) ≡ None → class_fits s a c ≡ true → is_below s a c ≡ true
+  fits_below : (a c : ℕ) → option_and_then (λ (x : Class). x.component) (class_at s a) ≡ None → class_fits s a c ≡ true → is_below s a c ≡ true
   unfolding class_fits shape_fits_class shape_fits object_fits passes type_of_class
   fits_below a c p h =
       let k = passed (λ (k : Class). shape_fits s false (ObjectShape a) (type_of_class k)) (class_at s c) h in
@@ -153,7 +154,7 @@ module _ (plan : Plan) (files : List ClassFile) (s : System) (from : IsLinkedFro
   -- the types of a class's fields
   types : (c i : ℕ) (type : List ℕ) → c < built_in_count → field_type s c i ≡ Some type → type_in (slice_get built_in_table c) i ≡ Some type
   unfolding field_type type_in
-  types c i type small e = ap (λ (o : Option Class). and_then o (λ k. mapped (λ f. f.descriptor) (slice_get k.fields i))) (sym (built_in plan files s from c small)) ∙ e
+  types c i type small e = ap (λ (o : Option Class). option_and_then (λ k. option_map (λ f. f.descriptor) (slice_get k.fields i)) o) (sym (built_in plan files s from c small)) ∙ e
 
   -- what is there is not missing
   missing : (o : Option (List ℕ)) (type : List ℕ) → o ≡ Some type → o ≡ None → ⊥
@@ -163,7 +164,7 @@ module _ (plan : Plan) (files : List ClassFile) (s : System) (from : IsLinkedFro
   pub string_fields : (c i : ℕ) (type : List ℕ) → class_fits s string_class c ≡ true → field_type s c i ≡ Some type → ⊥
   unfolding string_class object_class
   string_fields c i type h e =
-      elim (string_supers c (fits_below 1 c (ap (λ (o : Option Class). and_then o (λ (x : Class). x.component)) (built_in plan files s from 1 small_1) ∙ string_plain) h)) [
+      elim (string_supers c (fits_below 1 c (ap (λ (o : Option Class). option_and_then (λ (x : Class). x.component) o) (built_in plan files s from 1 small_1) ∙ string_plain) h)) [
         | inl q ↦ missing _ type (types 1 i type small_1 (ap (λ n. field_type s n i) (sym q) ∙ e)) (string_types i)
         | inr q ↦ missing _ type (types 0 i type small_0 (ap (λ n. field_type s n i) (sym q) ∙ e)) (object_types i)
       ]
@@ -172,7 +173,7 @@ module _ (plan : Plan) (files : List ClassFile) (s : System) (from : IsLinkedFro
   pub builder_fields : (c i : ℕ) (type : List ℕ) → class_fits s builder_class c ≡ true → field_type s c i ≡ Some type → type ≡ codes "Ljava/lang/String;"
   unfolding builder_class object_class
   builder_fields c i type h e =
-      elim (builder_supers c (fits_below 2 c (ap (λ (o : Option Class). and_then o (λ (x : Class). x.component)) (built_in plan files s from 2 small_2) ∙ builder_plain) h)) [
+      elim (builder_supers c (fits_below 2 c (ap (λ (o : Option Class). option_and_then (λ (x : Class). x.component) o) (built_in plan files s from 2 small_2) ∙ builder_plain) h)) [
         | inl q ↦ builder_types i type (types 2 i type small_2 (ap (λ n. field_type s n i) (sym q) ∙ e))
         | inr q ↦ absurd (missing _ type (types 0 i type small_0 (ap (λ n. field_type s n i) (sym q) ∙ e)) (object_types i))
       ]

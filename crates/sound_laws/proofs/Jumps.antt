@@ -24,7 +24,7 @@ use Rattle.jx_base.specs.declared.row.Row.TheVariants as row
 use Rattle.jx_base.specs.declared.value.Value.{Value}
 use Rattle.program_model.specs.Instructions.{Reading, instruction_at, operand, index_operand}
 use Rattle.program_model.specs.Lookup.{method_at}
-use Rattle.machine_model.specs.NumericRows.{Locals, Stack, NumericOutcome, depth_of, given, leaves, branches, load_row, store_row, discard_row, copy_row, swap_row, on_ints, on_longs, unless_by_zero, int_divide_row, long_divide_row, long_shift_row, negate_row, increment_row, convert_row, if_zero_row, if_ints_row, if_same_row, if_null_row, table_place, table_row, target_of, lookup_row, moving_row, arithmetic_row, branching_row, or_else, numeric_row}
+use Rattle.machine_model.specs.NumericRows.{Locals, Stack, NumericOutcome, depth_of, given, leaves, branches, load_row, store_row, discard_row, copy_row, swap_row, on_ints, on_longs, unless_by_zero, int_divide_row, long_divide_row, long_shift_row, negate_row, increment_row, convert_row, if_zero_row, if_ints_row, if_same_row, if_null_row, table_place, table_row, target_of, lookup_row, moving_row, arithmetic_row, branching_row, outcome_or, numeric_row}
 use Rattle.machine_model.specs.NumericRows.{NumericOutcome as numeric}
 use Rattle.machine_model.specs.State.{code_bytes, class_of_frame, stack_limit}
 use Rattle.jx_base.proofs.BasicLaws.{both, eq_of}
@@ -319,13 +319,13 @@ module _ (instrs : List Instr) (i : Instr) (all : (place : ℤ) → Contains (ta
   branching_lands _ l st e h = tt
 
 -- where the first outcome lands, and the other one, either does
-or_else_lands : (T : ℕ → Type 0) (o other : NumericOutcome) → Lands T o → Lands T other → Lands T (or_else o other)
-unfolding or_else
-or_else_lands T (numeric.Next l k) other h i = tt
-or_else_lands T (numeric.Jump to l k) other h i = h
-or_else_lands T (numeric.Raise c) other h i = tt
-or_else_lands T numeric.BadCode other h i = tt
-or_else_lands T numeric.NotMine other h i = i
+outcome_or_lands : (T : ℕ → Type 0) (o other : NumericOutcome) → Lands T o → Lands T other → Lands T (outcome_or o other)
+unfolding outcome_or
+outcome_or_lands T (numeric.Next l k) other h i = tt
+outcome_or_lands T (numeric.Jump to l k) other h i = h
+outcome_or_lands T (numeric.Raise c) other h i = tt
+outcome_or_lands T numeric.BadCode other h i = tt
+outcome_or_lands T numeric.NotMine other h i = i
 
 module _ (plan : Plan) (files : List ClassFile) (s : System) (from : IsLinkedFrom plan files s) where
   -- a jump leads to an instruction
@@ -337,8 +337,8 @@ module _ (plan : Plan) (files : List ClassFile) (s : System) (from : IsLinkedFro
       let all = w.targets r.instr in
       let i = r.instr in
       inl (starts m.instrs (first_starts c m.instrs w)
-      (subst (Lands (start m.instrs)) q (or_else_lands (start m.instrs) _ _ (moving_lands (start m.instrs) s (class_of_frame s f) (stack_limit s f) (row_at i.opcode) i f.locals f.stack.values)
-      (or_else_lands (start m.instrs) _ _ (arithmetic_lands (start m.instrs) (stack_limit s f) (row_at i.opcode) i f.locals f.stack.values)
+      (subst (Lands (start m.instrs)) q (outcome_or_lands (start m.instrs) _ _ (moving_lands (start m.instrs) s (class_of_frame s f) (stack_limit s f) (row_at i.opcode) i f.locals f.stack.values)
+      (outcome_or_lands (start m.instrs) _ _ (arithmetic_lands (start m.instrs) (stack_limit s f) (row_at i.opcode) i f.locals f.stack.values)
       (branching_lands m.instrs i (λ place a. all place inside a) (row_at i.opcode) f.locals f.stack.values (form_of_row i.opcode) (shaped_at (code_bytes s f) f.pc r e)))))))
     where
       start : List Instr → ℕ → Type 0

@@ -17,7 +17,6 @@ use Rattle.program_model.specs.Instructions.{Reading, reading_of, instruction_at
 use Rattle.program_model.specs.Lookup.{method_at}
 use Rattle.machine_model.specs.NumericRows.{Locals}
 use Rattle.machine_model.specs.State.{code_of, code_bytes, frame_with, pc_behind, handler_in, is_handler_for}
-use Rattle.jx_base.specs.Basics.{and_then, mapped}
 use Rattle.jx_base.proofs.BasicLaws.{both}
 use Rattle.code_reader.proofs.Sound.{sound_instruction, starts_at_pc, takes_a_byte}
 use Rattle.link_laws.specs.Linked.{IsLinkedFrom}
@@ -28,6 +27,7 @@ use Rattle.link_laws.proofs.Lists.{Among, any_among, same_there}
 use Rattle.link_laws.proofs.Uses.{and_then_some, mapped_some}
 use Rattle.link_laws.proofs.Whole.{methods_hold}
 use Rattle.machine_laws.specs.Values.{IsPlaced}
+use Rattle.std.specs.Option.{option_and_then, option_map}
 
 -- ---- readings
 
@@ -101,10 +101,10 @@ handler_starts c instrs r w h =
 
 -- the bytes of a frame's code are those of its method
 pub bytes_are : (s : System) (f : Frame) (k : Method) → method_at s f.method ≡ Some k → code_bytes s f ≡ (elim k.code as (λ _. List ℕ) [ None ↦ [] | Some c ↦ c.code ])
-unfolding code_bytes code_of and_then
+unfolding code_bytes code_of
 bytes_are s f k e = by (method_at s f.method) e
   where
-    by : (o : Option Method) → o ≡ Some k → (elim (and_then o (λ x. x.code)) as (λ _. List ℕ) [ None ↦ [] | Some c ↦ c.code ]) ≡ (elim k.code as (λ _. List ℕ) [ None ↦ [] | Some c ↦ c.code ])
+    by : (o : Option Method) → o ≡ Some k → (elim (option_and_then (λ x. x.code) o) as (λ _. List ℕ) [ None ↦ [] | Some c ↦ c.code ]) ≡ (elim k.code as (λ _. List ℕ) [ None ↦ [] | Some c ↦ c.code ])
     by None q = absurd cc
     by (Some x) q = ap (λ (y : Method). elim y.code as (λ _. List ℕ) [ None ↦ [] | Some c ↦ c.code ]) (same_there x k q)
 
@@ -142,7 +142,7 @@ module _ (plan : Plan) (files : List ClassFile) (s : System) (from : IsLinkedFro
   pub handlers : (f g : Frame) (c h : ℕ) → handler_in s c f ≡ Some h → g.method ≡ f.method → g.pc ≡ h → IsPlaced s g
   unfolding handler_in
   handlers f g c h e em ep =
-      let code = and_then_some (code_of s f.method) (λ c2. mapped (λ r. r.handler) (find (is_handler_for s c f) c2.table)) h e in
+      let code = and_then_some (code_of s f.method) (λ c2. option_map (λ r. r.handler) (find (is_handler_for s c f) c2.table)) h e in
       let range = mapped_some (λ (r : Range). r.handler) (find (is_handler_for s c f) code.0.table) h code.2 in
       let there = find_some (is_handler_for s c f) code.0.table range.0 range.1 in
       placed g (λ k d i q w.

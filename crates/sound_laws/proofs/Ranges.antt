@@ -22,7 +22,7 @@ use Rattle.program_model.specs.BuiltIn.{built_in_count, built_in_table, array_cl
 use Rattle.link_model.specs.ClassFiles.{constant_in, text_of_constant, text_in, class_name_in, selector_in}
 use Rattle.link_model.specs.Linking.{outline, class_of_file, array_class_named, meaning_of, meanings_from, meanings_of, in_class, found_field, own_field, own_instance_field, own_static_field, statics_before}
 use Rattle.program_model.specs.Lookup.{class_at, class_named, constant_at, is_built_in, supers_of}
-use Rattle.jx_base.specs.Basics.{mapped, contains_number}
+use Rattle.jx_base.specs.Basics.{contains_number}
 use Rattle.link_laws.specs.Linked.{IsLinkedFrom, IsReadFile}
 use Rattle.link_laws.proofs.Files.{HasUnits, IsFile}
 use Rattle.link_laws.proofs.Lists.{Among, of_each, at_among, each_among, position_at, same_there}
@@ -30,6 +30,7 @@ use Rattle.link_laws.proofs.Names.{are_files}
 use Rattle.link_laws.proofs.Origins.{IsOutlined, IsBuiltIn, IsOfFile, IsOfArray, is_outlined, class_linked, class_outlined, meant_of}
 use Rattle.link_laws.proofs.Uses.{and_then_some, mapped_some, some_given}
 use Rattle.machine_laws.specs.Sound.{IsResolvedIn}
+use Rattle.std.specs.Option.{option_map}
 
 -- ---- the constants of a file
 
@@ -126,12 +127,12 @@ from_meanings s f used i (h ∷ ks) (suc j) x e = elim (from_meanings s f used (
 -- the constants of a class are those of the outline, or what a file's mean
 meant_constants : (s : System) (files : List ClassFile) (c : ℕ) (h : Class) →
     ((meant_of s files c h).constants ≡ h.constants) ⊎ ((f : ClassFile) × Among files f × ((meant_of s files c h).constants ≡ meanings_of s f))
-unfolding meant_of mapped
+unfolding meant_of
 meant_constants s files c h = by (is_built_in c) (slice_get files (c - built_in_count)) refl
   where
     by : (b : Bool) (o : Option ClassFile) → slice_get files (c - built_in_count) ≡ o
-        → ((if b then h else unwrap_or (mapped (λ (f : ClassFile). record h { constants = meanings_of s f }) o) h).constants ≡ h.constants)
-        ⊎ ((f : ClassFile) × Among files f × ((if b then h else unwrap_or (mapped (λ (f : ClassFile). record h { constants = meanings_of s f }) o) h).constants ≡ meanings_of s f))
+        → ((if b then h else unwrap_or (option_map (λ (f : ClassFile). record h { constants = meanings_of s f }) o) h).constants ≡ h.constants)
+        ⊎ ((f : ClassFile) × Among files f × ((if b then h else unwrap_or (option_map (λ (f : ClassFile). record h { constants = meanings_of s f }) o) h).constants ≡ meanings_of s f))
     by true o e = inl refl
     by false None e = inl refl
     by false (Some f) e = inr (f, at_among files (c - built_in_count) f e, refl)

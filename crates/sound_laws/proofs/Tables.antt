@@ -17,7 +17,7 @@ use Rattle.program_model.specs.BuiltIn.{built_in_count, built_in_table, portal_c
 use Rattle.link_model.specs.Linking.{outline, meanings_of}
 use Rattle.program_model.specs.Lookup.{class_at, class_named, method_at, selector_at, template_at, is_built_in, is_below, is_interface, class_of_type, class_name_of_type, type_of_name, type_of_class, fits_type, object_fits, shape_fits, shape_fits_class, ObjectShape, opened_lookup}
 use Rattle.program_model.specs.Types.{is_reference_type}
-use Rattle.jx_base.specs.Basics.{mapped, passes, opened_basics}
+use Rattle.jx_base.specs.Basics.{passes, opened_basics}
 use Rattle.jx_base.proofs.BasicLaws.{passed, eq_of}
 use Rattle.link_laws.specs.Linked.{IsLinkedFrom}
 use Rattle.link_laws.proofs.Classes.{built_in_length}
@@ -28,6 +28,7 @@ use Rattle.link_laws.proofs.Origins.{meant_of}
 use Rattle.link_laws.proofs.Uses.{either_true}
 use Rattle.link_laws.proofs.Whole.{methods_hold}
 use Rattle.machine_laws.specs.Values.{cell_limit}
+use Rattle.std.specs.Option.{option_map}
 
 -- ---- the table
 
@@ -56,7 +57,7 @@ unfolding meant_of is_built_in
 meant_itself s files c k h = by (nat_lt c built_in_count) ((Decides-ltb c built_in_count).1 h)
   where
     other : Class
-    other = unwrap_or (mapped (λ (f : ClassFile). record k { constants = meanings_of s f }) (slice_get files (c - built_in_count))) k
+    other = unwrap_or (option_map (λ (f : ClassFile). record k { constants = meanings_of s f }) (slice_get files (c - built_in_count))) k
 
     by : (b : Bool) → b ≡ true → (if b then k else other) ≡ k
     by true e = refl

@@ -14,7 +14,6 @@ use Rattle.link_model.specs.ClassFiles.{super_name, interface_names}
 use Rattle.link_model.specs.LinkFaults.{listed_name, listed_names, has_text, is_object_name, may_extend}
 use Rattle.link_model.specs.Linking.{outline, class_number, class_id, class_of_file, array_class_named}
 use Rattle.program_model.specs.Lookup.{class_at, class_count, is_below, parent_list, supers_of, supers_within}
-use Rattle.jx_base.specs.Basics.{mapped}
 use Rattle.jx_base.proofs.BasicLaws.{both, eq_of}
 use Rattle.link_laws.specs.Linked.{IsLinkedFrom}
 use Rattle.link_laws.specs.Supers.{right_above}
@@ -27,6 +26,7 @@ use Rattle.link_laws.proofs.Rises.{array_parent}
 use Rattle.link_laws.proofs.Templates.{file_listed, listed_sound}
 use Rattle.link_laws.proofs.Uses.{either_true}
 use Rattle.sound_laws.proofs.Tables.{clash}
+use Rattle.std.specs.Option.{option_map}
 
 -- ---- what the table says
 
@@ -144,13 +144,13 @@ module _ (plan : Plan) (files : List ClassFile) (s : System) (from : IsLinkedFro
 
   -- what stands right above the class of a file is none of them
   file_free : (p : ℕ) (f : ClassFile) → slice_get files p ≡ Some f → (x : ℕ) → Among (right_above (class_of_file plan files (built_in_count + p) f)) x → is_final x ≡ true → ⊥
-  unfolding class_of_file class_id mapped parent_list
+  unfolding class_of_file class_id parent_list
   file_free p f e x a h =
       let l = file_listed plan files s from.linked p f e in
       let q = super_number plan files s from.linked l.0 p l.1 f l.2 in
       elim (among_either (map (λ (i : ClassId). i.0) (filter_map (class_id plan) (interface_names f))) (parent_list (class_id plan (super_name f))) x a) [
         | inl b ↦ let r = from_map (λ (i : ClassId). i.0) (filter_map (class_id plan) (interface_names f)) x b in interface r.0 r.2 (interface_named plan files s from.linked l.0 p l.1 f l.2 r.0 r.1)
-        | inr b ↦ elim (subst (λ (o : Option ClassId). Among (parent_list o) x) (ap (mapped (λ (c : ℕ). record { 0 = c })) q.1) b) [
+        | inr b ↦ elim (subst (λ (o : Option ClassId). Among (parent_list o) x) (ap (option_map (λ (c : ℕ). record { 0 = c })) q.1) b) [
           | inl w ↦ may_not l.0 f (super_name f) (listed_sound plan files s from.linked l.0 p l.1 f l.2).extends (final_named (super_name f) x h (q.1 ∙ ap Some w))
           | inr w ↦ absurd w
         ]

@@ -11,11 +11,11 @@ use Rattle.link_model.specs.LinkFaults.{IsLinked}
 use Rattle.machine_model.specs.Machine.{domain_state}
 use Rattle.machine_model.specs.State.{State, Core}
 use Rattle.machine_model.specs.MachineThreads.{thread_at, core_of}
-use Rattle.jx_base.specs.Basics.{mapped}
 use Rattle.program_model.specs.Parcels.{HeapObject}
 use Rattle.opened_models.specs.Opened.{opened_model}
 use Rattle.first_class.proofs.HelloLinked.{all_none, all_one, all_two}
 use Rattle.first_class.proofs.Hello.{hello_plan, hello_file, hello_system, hello_links, hello_is_good, instr}
+use Rattle.std.specs.Option.{option_map}
 
 -- ---- the start
 
@@ -46,7 +46,7 @@ first_core =
 
 -- the core of thread 0
 abbrev pub core_at : State → Option Core
-core_at st = mapped (core_of st) (thread_at st 0)
+core_at st = option_map (core_of st) (thread_at st 0)
 
 starts_so : core_at (domain_state (hello_system 1000000) 0 []) ≡ Some first_core
 unfolding opened_model

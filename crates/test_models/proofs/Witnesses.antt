@@ -4,7 +4,6 @@ use Rattle.jx_base.specs.declared.act.Act.{Act}
 use Rattle.jx_base.specs.declared.act.Act.TheVariants as act
 use Rattle.jx_base.specs.declared.program.System.{System}
 use Rattle.opened_models.specs.Opened.{opened_model}
-use Rattle.jx_base.specs.Basics.{or_zero}
 use Rattle.jx_base.specs.Histories.{Past}
 use Rattle.jx_model.specs.Holding.{is_extent_in_use}
 use Rattle.jx_model.specs.Permits.{acting_thread}
@@ -14,6 +13,7 @@ use Rattle.jx_model.specs.Legal.{IsNext, IsAdmittedPast}
 use Rattle.jx_base.proofs.BasicLaws.{both}
 use Rattle.jx_model.proofs.WellMadeTest.{well_made_test}
 use Rattle.test_models.proofs.Steps.{Step, past_after_steps, boots, object, one, two, four, part_of_part, dead_caller, three_callers}
+use Rattle.std.specs.Option.{unwrap_or}
 
 -- ---- scripts of steps
 
@@ -23,8 +23,7 @@ goes s past [] = true
 goes s past (x ∷ steps) = (is_some (acting_thread s past x.0 x.1) && is_well_made s past x.1) && goes s (entry_for s past x.0 x.1 ∷ past) steps
 
 -- a thread that is there
-some_thread : (o : Option ℕ) → is_some o ≡ true → o ≡ Some (or_zero o)
-unfolding or_zero
+some_thread : (o : Option ℕ) → is_some o ≡ true → o ≡ Some (unwrap_or o 0)
 some_thread None h = cc
 some_thread (Some t) h = refl
 

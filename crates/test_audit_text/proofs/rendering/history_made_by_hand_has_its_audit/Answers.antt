@@ -1,5 +1,5 @@
-use Rattle.rows_audits.proofs.HandMade.{is_admitted, has_built_acts}
-use Rattle.rows_audits.proofs.rendering.history_made_by_hand_has_its_audit.Goals as goal
+use Rattle.test_audit_text.proofs.HandMade.{is_admitted, has_built_acts}
+use Rattle.test_audit_text.proofs.rendering.history_made_by_hand_has_its_audit.Goals as goal
 
 pub render-requires-clause-admitted : goal.render-requires-clause-admitted
 render-requires-clause-admitted g c = is_admitted c.in_ok-system.system c.in_ok-history.history c.in_ok-system.ensures c.in_ok-history.ensures

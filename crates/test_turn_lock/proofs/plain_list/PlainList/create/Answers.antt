@@ -3,9 +3,9 @@ use Rattle.jx_base.specs.declared.act.Entry.{Entry}
 use Rattle.jx_base.specs.declared.act.Act.TheVariants.{Create}
 use Rattle.jx_base.specs.declared.act.Reply.TheVariants.{Domain}
 use Rattle.jx_base.specs.Births.{domain_in, answered_domain}
-use Rattle.rows_locks.specs.ListState.{ListState}
-use Rattle.rows_locks.proofs.Numbering.{numbers_with}
-use Rattle.rows_locks.proofs.plain_list.PlainList.create.Goals as goal
+use Rattle.test_turn_lock.specs.ListState.{ListState}
+use Rattle.test_turn_lock.proofs.Numbering.{numbers_with}
+use Rattle.test_turn_lock.proofs.plain_list.PlainList.create.Goals as goal
 
 pub invariant_of-self-2 : goal.invariant_of-self-2
 unfolding domain_in answered_domain

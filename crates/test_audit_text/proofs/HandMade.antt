@@ -8,7 +8,7 @@ use Rattle.jx_base.specs.declared.program.System.{System}
 use Rattle.audit_text.specs.Rendering.{HasBuiltActs}
 use Rattle.jx_model.specs.Legal.{IsAdmitted}
 use Rattle.opened_models.specs.Opened.{opened_model}
-use Rattle.rows_audits.specs.HandMade.{small_template, small_system, plain_entry, odd_text, hand_made}
+use Rattle.test_audit_text.specs.HandMade.{small_template, small_system, plain_entry, odd_text, hand_made}
 
 abbrev made : History
 made = record { entries = hand_made }

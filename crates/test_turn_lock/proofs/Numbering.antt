@@ -8,7 +8,7 @@ use Rattle.turn_lock.specs.Entries.{last_born}
 use Rattle.turn_lock.specs.Standing.{Standing, IsGiven}
 use Rattle.turn_lock.proofs.Births.{answered_domains-push_none, answered_domains-push_some, IsNumbered-push_none, IsNumbered-push_some}
 use Rattle.turn_lock.proofs.Standings.{born_now, given_made}
-use Rattle.rows_locks.specs.ListState.{ListState, HasNumbers, IsAdded}
+use Rattle.test_turn_lock.specs.ListState.{ListState, HasNumbers, IsAdded}
 
 pub numbers_without : (es : List Entry) (e : Entry) (n : ℕ) → HasNumbers es n → answered_domain e ≡ None → length es < 1000 → HasNumbers (es ++ e ∷ []) n
 numbers_without es e n h none lt =

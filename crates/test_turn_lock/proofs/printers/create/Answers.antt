@@ -1,8 +1,8 @@
 use Rattle.std.proofs.Common.{◌+◌, ◌∙◌, ap, List, length}
 use Rattle.std.proofs.lemmas.Result.{IfOk-weaker}
 use Rattle.jx_base.specs.declared.act.Entry.{Entry}
-use Rattle.rows_locks.proofs.Numbering.{added_born, added_made}
-use Rattle.rows_locks.proofs.printers.create.Goals as goal
+use Rattle.test_turn_lock.proofs.Numbering.{added_born, added_made}
+use Rattle.test_turn_lock.proofs.printers.create.Goals as goal
 
 pub returns-clause-made : goal.returns-clause-made
 returns-clause-made g c = IfOk-weaker c.create-born.result _ _ (λ born added. added_made _ _ c.take-list.result _ _ born.0 c.take-list.ensures.entries added c.give.ensures ∙ ap (λ (made : List Entry). length made + 1) c.take-list.ensures.taken.made) c.create-born.ensures.ok

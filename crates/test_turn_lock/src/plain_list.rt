@@ -1,7 +1,7 @@
 //! A plain list of entries.
 ghost use Rattle.std.specs.Prelude.{◌≡◌, [], Some, None, OnOk, OnErr, IfOk};
-ghost use Rattle.rows_locks.specs.Systems.{empty_system_value};
-ghost use Rattle.rows_locks.specs.ListState.{IsAdded};
+ghost use Rattle.test_turn_lock.specs.Systems.{empty_system_value};
+ghost use Rattle.test_turn_lock.specs.ListState.{IsAdded};
 
 use jx_base::{
     Act, Chronicle, DomainId, Entry, Listed, OutOfMemory, Plan, Program, Reply, System, ThreadId,
@@ -21,7 +21,7 @@ pub struct PlainList {
 }
 
 impl Model for PlainList {
-    ghost use Rattle.rows_locks.specs.ListState.{ListState, HasNumbers};
+    ghost use Rattle.test_turn_lock.specs.ListState.{ListState, HasNumbers};
 
     ghost Value = { ListState };
 
