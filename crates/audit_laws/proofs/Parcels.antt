@@ -13,17 +13,14 @@ use Rattle.jx_base.specs.declared.value.Node.{Node}
 use Rattle.jx_base.specs.declared.value.Parcel.{Parcel}
 use Rattle.jx_base.specs.declared.program.System.{System}
 use Rattle.jx_base.specs.Histories.{Past}
-use Rattle.jx_model.specs.Portals.{interface_of, services_made}
+use Rattle.jx_model.specs.Portals.{interface_of}
 use Rattle.program_model.specs.Limits.{node_limit}
 use Rattle.program_model.specs.ParcelParts.{parcel_cells}
 use Rattle.jx_model.specs.WellMade.{IsWordIn, IsParcelIn, IsClass}
-use Rattle.jx_model.specs.Legal.{IsAdmittedPast}
 use Rattle.audit_model.specs.Audit.{Bytes, word_text, node_text, parcel_text, class_text}
 use Rattle.program_model.specs.DistinctNames.{HasDistinctNames}
-use Rattle.audit_laws.specs.Laws.{HasWordIds, HasParcelIds}
 use Rattle.audit_laws.proofs.Cuts.{parts_of_cons, first_unit}
 use Rattle.audit_laws.proofs.Numbers.{Ends, number_takes, signed_takes}
-use Rattle.audit_laws.proofs.FewThreads.{services_few, interface_within}
 use Rattle.audit_laws.proofs.Lists.{Tells, items_take}
 use Rattle.audit_laws.proofs.Named.{class_takes, class_begins}
 
@@ -143,19 +140,19 @@ parcel_takes s names past x y r q h k e =
 
 -- ---- which parcels those are
 
--- a word that is well made is told, where its memory object has a number of 32 bits
-told_word : (past : Past) (n : ℕ) (w : Word) → services_made past ≤ 256 → n ≤ 1024 → IsWordIn past n w → HasWordIds w → IsToldWord past w
-told_word past n (word.Int z) made few h k = omega (arith, h.sfits)
-told_word past n (word.Long z) made few h k = omega (arith, h.sfits)
-told_word past n (word.Node i) made few h k = omega arith
-told_word past n (word.Portal i c) made few h k = (omega (arith, interface_within past i.0 c h), h)
-told_word past n (word.Mem m) made few h k = omega arith
-told_word past n word.Null made few h k = tt
+-- a word that is well made is told
+told_word : (past : Past) (n : ℕ) (w : Word) → n ≤ 1024 → IsWordIn past n w → IsToldWord past w
+told_word past n (word.Int z) few h = omega (arith, h.sfits)
+told_word past n (word.Long z) few h = omega (arith, h.sfits)
+told_word past n (word.Node i) few h = omega arith
+told_word past n (word.Portal i c) few h = (omega (arith, h.0), h.1)
+told_word past n (word.Mem m) few h = omega arith
+told_word past n word.Null few h = tt
 
 -- so are such words
-told_words : (past : Past) (n : ℕ) (ws : List Word) → services_made past ≤ 256 → n ≤ 1024 → AllByRecursion (IsWordIn past n) ws → AllByRecursion HasWordIds ws → AllByRecursion (IsToldWord past) ws
-told_words past n [] made few h k = tt
-told_words past n (w ∷ ws) made few h k = (told_word past n w made few h.0 k.0, told_words past n ws made few h.1 k.1)
+told_words : (past : Past) (n : ℕ) (ws : List Word) → n ≤ 1024 → AllByRecursion (IsWordIn past n) ws → AllByRecursion (IsToldWord past) ws
+told_words past n [] few h = tt
+told_words past n (w ∷ ws) few h = (told_word past n w few h.0, told_words past n ws few h.1)
 
 -- what is true of all items is true of the front ones
 all_front : {A : Type 0} (P : A → Type 0) (xs ys : List A) → AllByRecursion P (xs ++ ys) → AllByRecursion P xs
@@ -176,11 +173,11 @@ told_nodes s past (n ∷ ns) h k = (
   told_nodes s past ns h.1 (all_back (IsToldWord past) n.cells (flat_map (λ (n : Node). n.cells) ns) k),
 )
 
--- a parcel that is well made is told, where its memory objects have numbers of 32 bits
-pub told_parcel : (s : System) (past : Past) (p : Parcel) → IsAdmittedPast s past → IsParcelIn s past p → HasParcelIds p → IsToldParcel s past p
+-- a parcel that is well made is told
+pub told_parcel : (s : System) (past : Past) (p : Parcel) → IsParcelIn s past p → IsToldParcel s past p
 unfolding parcel_cells node_limit
-told_parcel s past p past_is h k =
-    let all = told_words past (length p.nodes) (parcel_cells p) (services_few s past past_is) h.few h.cells k in
+told_parcel s past p h =
+    let all = told_words past (length p.nodes) (parcel_cells p) h.few h.cells in
     record {
       roots = all_front (IsToldWord past) p.roots (flat_map (λ (n : Node). n.cells) p.nodes) all;
       nodes = told_nodes s past p.nodes h.classes (all_back (IsToldWord past) p.roots (flat_map (λ (n : Node). n.cells) p.nodes) all);

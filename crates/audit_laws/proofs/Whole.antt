@@ -1,5 +1,5 @@
 -- Admitted histories with the same audit are the same.
-use Rattle.std.proofs.Common.{◌≡◌, ◌^◌, ◌<◌, List, [], ◌∷◌, ◌++◌, codes, reverse, refl, sym, ap, ◌∙◌, subst, append_assoc, append-nil}
+use Rattle.std.proofs.Common.{◌≡◌, List, [], ◌∷◌, ◌++◌, codes, reverse, refl, sym, ap, ◌∙◌, subst, append_assoc, append-nil}
 use Rattle.std.proofs.lemmas.List.{append_cancel_left, reverse-append}
 use Rattle.jx_base.specs.Texts.{line, spaced}
 use Rattle.jx_base.specs.declared.act.Entry.{Entry}
@@ -11,7 +11,7 @@ use Rattle.audit_model.specs.Audit.{Bytes}
 use Rattle.audit_model.specs.AuditText.{entry_lines, lines_after, audit_text}
 use Rattle.program_model.specs.DistinctNames.{HasDistinctNames}
 use Rattle.jx_model.proofs.Growing.{start_admitted}
-use Rattle.audit_laws.specs.Laws.{AuditsTell}
+use Rattle.audit_laws.specs.OneText.{AuditsDiffer}
 use Rattle.audit_laws.proofs.Cuts.{later_units}
 use Rattle.audit_laws.proofs.Entries.{AllFollow, entries_take}
 
@@ -33,12 +33,12 @@ unfolding lines_after line spaced
 after_begins s es past = refl
 
 -- a history of a system with distinct names is told by its audit
-pub audits_tell : (s : System) → HasDistinctNames s → s.plan.journal < 2 ^ 32 → AuditsTell s
+pub audits_tell : (s : System) → HasDistinctNames s → AuditsDiffer s
 unfolding audit_text
-audits_tell s names small h k i j a b e =
+audits_tell s names h k a b e =
     let parts : (x : History) → audit_text s x ≡ line (codes "jx audit 1" ∷ []) ++ (entry_lines s 1 x.entries ++ 99 ∷ later_units (lines_after s x.entries (past_of x))) =
     λ x. append_assoc (line (codes "jx audit 1" ∷ [])) (entry_lines s 1 x.entries) (lines_after s x.entries (past_of x))
     ∙ ap (λ (y : Bytes). line (codes "jx audit 1" ∷ []) ++ (entry_lines s 1 x.entries ++ y)) (after_begins s x.entries (past_of x)) in
     let rest = append_cancel_left (line (codes "jx audit 1" ∷ [])) _ _ (sym (parts h) ∙ e ∙ parts k) in
-    let same = entries_take s names small [] 1 h.entries k.entries _ _ tt (history_follows s h a) (history_follows s k b) i j rest in
+    let same = entries_take s names [] 1 h.entries k.entries _ _ tt (history_follows s h a) (history_follows s k b) rest in
     (λ t. record { entries = same t })

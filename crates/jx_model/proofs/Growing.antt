@@ -56,7 +56,7 @@ interface_stays e past k c h = by (nth_entry is_export past k) refl h
     by (Some x) q h = ap (λ (o : Option Entry). option_and_then (λ x. exported_interface x.act x.reply) o) (nth_stays is_export e past k x q) ∙ h
 
 word_stays : (e : Entry) (past : Past) (n : ℕ) (w : Word) → IsWordIn past n w → IsWordIn (e ∷ past) n w
-word_stays e past n (word.Portal k c) h = interface_stays e past k.0 c h
+word_stays e past n (word.Portal k c) h = (h.0, interface_stays e past k.0 c h.1)
 word_stays e past n _ h = h
 
 words_stay : (e : Entry) (past : Past) (n : ℕ) (ws : List Word) → AllByRecursion (IsWordIn past n) ws → AllByRecursion (IsWordIn (e ∷ past) n) ws
@@ -68,9 +68,9 @@ parcel_stays s e past p h =
     record { few = h.few; small = h.small; classes = h.classes; cells = words_stay e past (length p.nodes) (parcel_cells p) h.cells }
 
 act_stays : (s : System) (e : Entry) (past : Past) (a : Act) → IsWellMade s past a → IsWellMade s (e ∷ past) a
-act_stays s e past (act.Call k m p) h = (h.0, parcel_stays s e past p h.1)
-act_stays s e past (act.Return c p) h = parcel_stays s e past p h
-act_stays s e past (act.Throw c p) h = parcel_stays s e past p h
+act_stays s e past (act.Call k m p) h = (h.0, parcel_stays s e past p h.1, h.2)
+act_stays s e past (act.Return c p) h = (parcel_stays s e past p h.0, h.1)
+act_stays s e past (act.Throw c p) h = (parcel_stays s e past p h.0, h.1)
 act_stays s e past _ h = h
 
 stays_after : (s : System) (past later : Past) (a : Act) → IsWellMade s past a → IsWellMade s (later ++ past) a

@@ -20,8 +20,8 @@ use Rattle.program_model.specs.ParcelParts.{parcel_cells, parcel_words}
 use Rattle.jx_base.specs.Histories.{Past}
 use Rattle.jx_model.specs.Portals.{interface_of}
 use Rattle.program_model.specs.Lookup.{class_at, selector_at, template_at}
-use Rattle.program_model.specs.Ranges.{IsInt, IsText, IsNameUnit, IsServiceName, IsWidth, has_bits, is_int, is_text, is_name_unit, is_service_name, is_width}
-use Rattle.jx_model.specs.WellMade.{IsWordIn, IsClass, IsParcelIn, IsWellMadeTest, is_word_in, is_class, is_parcel_in, is_exception, is_end_reason, is_well_made}
+use Rattle.program_model.specs.Ranges.{IsId, is_id, IsInt, IsText, IsNameUnit, IsServiceName, IsWidth, has_bits, is_int, is_text, is_name_unit, is_service_name, is_width}
+use Rattle.jx_model.specs.WellMade.{IsPortalIn, is_portal_in, IsWordIn, IsClass, IsParcelIn, IsWellMadeTest, is_word_in, is_class, is_parcel_in, is_exception, is_end_reason, is_well_made}
 use Rattle.jx_base.proofs.BasicLaws.{eq_of, same_number}
 use Rattle.std.specs.Option.{option_map}
 
@@ -57,6 +57,10 @@ bits_64 : (n : ℤ) → Decides (has_bits 63 n) (FitsSigned w64 n)
 unfolding has_bits
 bits_64 (pos n) = Decides-like (nat_lt n (2 ^ 63)) (λ h. record { sfits = h }) (λ h. h.sfits) (below n (2 ^ 63))
 bits_64 (negsuc n) = Decides-like (nat_lt n (2 ^ 63)) (λ h. record { sfits = h }) (λ h. h.sfits) (below n (2 ^ 63))
+
+ids : (n : ℕ) → Decides (is_id n) (IsId n)
+unfolding is_id
+ids n = below n (2 ^ 32)
 
 ints : (n : ℤ) → Decides (is_int n) (IsInt n)
 unfolding is_int
@@ -99,12 +103,17 @@ unfolding is_number
 portals None c = (λ h. cc, λ h. cc)
 portals (Some k) c = (λ h. ap (λ (n : ℕ). let x : ClassId = record { 0 = n } in Some x) (eq_of k.0 c.0 h), λ h. let q : k ≡ c = cc in ap (λ (x : ClassId). k.0 == x.0) (sym q) ∙ same_number k.0)
 
+portals_in : (past : Past) (k : ℕ) (c : ClassId) → Decides (is_portal_in past k c) (IsPortalIn past k c)
+unfolding is_portal_in
+portals_in past k c = Decides-and _ _ (ids k) (portals (interface_of past k) c)
+
 words : (past : Past) (nodes : ℕ) (w : Word) → Decides (is_word_in past nodes w) (IsWordIn past nodes w)
 unfolding is_word_in
 words past nodes (word.Int n) = bits_32 n
 words past nodes (word.Long n) = bits_64 n
 words past nodes (word.Node k) = below k nodes
-words past nodes (word.Portal k c) = portals (interface_of past k.0) c
+words past nodes (word.Portal k c) = portals_in past k.0 c
+words past nodes (word.Mem m) = ids m.0
 words past nodes _ = always
 
 classes : (s : System) (c : ℕ) → Decides (is_class s c) (IsClass s c)
@@ -133,24 +142,41 @@ end_reasons reason.Killed = (λ h. cc, λ h. elim h [ inl q ↦ cc | inr q ↦ c
 three : {P Q R : Type 0} (x y z : Bool) → Decides x P → Decides y Q → Decides z R → Decides (x && y && z) (P × Q × R)
 three x y z p q r = Decides-like (x && y && z) (λ h. (h.0.0, h.0.1, h.1)) (λ h. ((h.0, h.1), h.2)) (Decides-and (x && y) z (Decides-and x y p q) r)
 
+four : {P Q R S : Type 0} (x y z w : Bool) → Decides x P → Decides y Q → Decides z R → Decides w S → Decides (x && y && z && w) (P × Q × R × S)
+four x y z w p q r v =
+    Decides-like (x && y && z && w) (λ h. (h.0.0, h.0.1, h.0.2, h.1)) (λ h. ((h.0, h.1, h.2), h.3))
+    (Decides-and (x && y && z) w (three x y z p q r) v)
+
+five : {P Q R S T : Type 0} (x y z w v : Bool) → Decides x P → Decides y Q → Decides z R → Decides w S → Decides v T →
+    Decides (x && y && z && w && v) (P × Q × R × S × T)
+five x y z w v p q r i j =
+    Decides-like (x && y && z && w && v) (λ h. (h.0.0, h.0.1, h.0.2, h.0.3, h.1)) (λ h. ((h.0, h.1, h.2, h.3), h.4))
+    (Decides-and (x && y && z && w) v (four x y z w p q r i) j)
+
 -- the test says whether the act is well made
 pub well_made_test : (s : System) (past : Past) (a : Act) → IsWellMadeTest s past a
 unfolding is_well_made
 well_made_test s past (act.Create t) = itself (is_some (template_at s t))
 well_made_test s past (act.Print text) = texts text
 well_made_test s past (act.Export iface k) = three _ _ _ (classes s iface.0) (at_most 1 k) (at_most k thread_limit)
-well_made_test s past (act.Bind name service) = names name
+well_made_test s past (act.Bind name service) = Decides-and _ _ (names name) (ids service.0)
 well_made_test s past (act.Lookup name) = names name
-well_made_test s past (act.Call service method parcel) = Decides-and _ _ (itself (is_some (selector_at s method.0))) (parcels s past parcel)
-well_made_test s past (act.Return c parcel) = parcels s past parcel
-well_made_test s past (act.Throw c parcel) = parcels s past parcel
+well_made_test s past (act.Call service method parcel) = three _ _ _ (itself (is_some (selector_at s method.0))) (parcels s past parcel) (ids service.0)
+well_made_test s past (act.Take c) = ids c.0
+well_made_test s past (act.Return c parcel) = Decides-and _ _ (parcels s past parcel) (ids c.0)
+well_made_test s past (act.Throw c parcel) = Decides-and _ _ (parcels s past parcel) (ids c.0)
+well_made_test s past (act.Resume c) = ids c.0
+well_made_test s past (act.Go t) = ids t.0
 well_made_test s past (act.Alloc n) = ints n
-well_made_test s past (act.Get m at width) = Decides-and _ _ (widths width) (ints at)
-well_made_test s past (act.Set m at width v) = three _ _ _ (widths width) (ints at) (ints v)
-well_made_test s past (act.Fill m at count b) = three _ _ _ (ints at) (ints count) (below b 256)
-well_made_test s past (act.Copy m at k k_at count) = three _ _ _ (ints at) (ints k_at) (ints count)
-well_made_test s past (act.Sub m at count) = Decides-and _ _ (ints at) (ints count)
-well_made_test s past (act.Split m at) = ints at
+well_made_test s past (act.Size m) = ids m.0
+well_made_test s past (act.Get m at width) = three _ _ _ (widths width) (ints at) (ids m.0)
+well_made_test s past (act.Set m at width v) = four _ _ _ _ (widths width) (ints at) (ints v) (ids m.0)
+well_made_test s past (act.Fill m at count b) = four _ _ _ _ (ints at) (ints count) (below b 256) (ids m.0)
+well_made_test s past (act.Copy m at k k_at count) = five _ _ _ _ _ (ints at) (ints k_at) (ints count) (ids m.0) (ids k.0)
+well_made_test s past (act.Sub m at count) = three _ _ _ (ints at) (ints count) (ids m.0)
+well_made_test s past (act.Split m at) = Decides-and _ _ (ints at) (ids m.0)
+well_made_test s past (act.Revoke m) = ids m.0
+well_made_test s past (act.Release m) = ids m.0
 well_made_test s past (act.Spawn name) = texts name
 well_made_test s past (act.Kill k) = ints k
 well_made_test s past (act.Exit code) = ints code

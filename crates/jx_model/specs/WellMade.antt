@@ -18,15 +18,20 @@ use Rattle.program_model.specs.ParcelParts.{parcel_cells, parcel_words}
 use Rattle.jx_base.specs.Histories.{Past}
 use Rattle.jx_model.specs.Portals.{interface_of}
 use Rattle.program_model.specs.Lookup.{class_at, selector_at, template_at}
-use Rattle.program_model.specs.Ranges.{IsInt, IsText, IsServiceName, IsWidth, has_bits, is_int, is_text, is_service_name, is_width}
+use Rattle.program_model.specs.Ranges.{IsId, IsInt, IsText, IsServiceName, IsWidth, is_id, has_bits, is_int, is_text, is_service_name, is_width}
 use Rattle.std.specs.Option.{option_map}
 
--- a word within its range; a portal names a service that was exported, with its interface
+-- a portal to a service that was exported, with its interface
+abbrev pub IsPortalIn : Past → ℕ → ClassId → Type 0
+IsPortalIn past k c = IsId k × (interface_of past k ≡ Some c)
+
+-- a word within its range
 abbrev pub IsWordIn : Past → ℕ → Word → Type 0
 IsWordIn past nodes (word.Int n) = FitsSigned w32 n
 IsWordIn past nodes (word.Long n) = FitsSigned w64 n
 IsWordIn past nodes (word.Node k) = k < nodes
-IsWordIn past nodes (word.Portal k c) = interface_of past k.0 ≡ Some c
+IsWordIn past nodes (word.Portal k c) = IsPortalIn past k.0 c
+IsWordIn past nodes (word.Mem m) = IsId m.0
 IsWordIn past nodes _ = Unit {0}
 
 -- a class of the system
@@ -45,18 +50,24 @@ abbrev pub IsWellMade : System → Past → Act → Type 0
 IsWellMade s past (act.Create t) = IsSome (template_at s t)
 IsWellMade s past (act.Print text) = IsText text
 IsWellMade s past (act.Export iface k) = IsClass s iface.0 × (1 ≤ k) × (k ≤ thread_limit)
-IsWellMade s past (act.Bind name service) = IsServiceName name
+IsWellMade s past (act.Bind name service) = IsServiceName name × IsId service.0
 IsWellMade s past (act.Lookup name) = IsServiceName name
-IsWellMade s past (act.Call service method parcel) = IsSome (selector_at s method.0) × IsParcelIn s past parcel
-IsWellMade s past (act.Return c parcel) = IsParcelIn s past parcel
-IsWellMade s past (act.Throw c parcel) = IsParcelIn s past parcel
+IsWellMade s past (act.Call service method parcel) = IsSome (selector_at s method.0) × IsParcelIn s past parcel × IsId service.0
+IsWellMade s past (act.Take c) = IsId c.0
+IsWellMade s past (act.Return c parcel) = IsParcelIn s past parcel × IsId c.0
+IsWellMade s past (act.Throw c parcel) = IsParcelIn s past parcel × IsId c.0
+IsWellMade s past (act.Resume c) = IsId c.0
+IsWellMade s past (act.Go t) = IsId t.0
 IsWellMade s past (act.Alloc n) = IsInt n
-IsWellMade s past (act.Get m at width) = IsWidth width × IsInt at
-IsWellMade s past (act.Set m at width v) = IsWidth width × IsInt at × IsInt v
-IsWellMade s past (act.Fill m at count b) = IsInt at × IsInt count × (b < 256)
-IsWellMade s past (act.Copy m at k k_at count) = IsInt at × IsInt k_at × IsInt count
-IsWellMade s past (act.Sub m at count) = IsInt at × IsInt count
-IsWellMade s past (act.Split m at) = IsInt at
+IsWellMade s past (act.Size m) = IsId m.0
+IsWellMade s past (act.Get m at width) = IsWidth width × IsInt at × IsId m.0
+IsWellMade s past (act.Set m at width v) = IsWidth width × IsInt at × IsInt v × IsId m.0
+IsWellMade s past (act.Fill m at count b) = IsInt at × IsInt count × (b < 256) × IsId m.0
+IsWellMade s past (act.Copy m at k k_at count) = IsInt at × IsInt k_at × IsInt count × IsId m.0 × IsId k.0
+IsWellMade s past (act.Sub m at count) = IsInt at × IsInt count × IsId m.0
+IsWellMade s past (act.Split m at) = IsInt at × IsId m.0
+IsWellMade s past (act.Revoke m) = IsId m.0
+IsWellMade s past (act.Release m) = IsId m.0
 IsWellMade s past (act.Spawn name) = IsText name
 IsWellMade s past (act.Kill k) = IsInt k
 IsWellMade s past (act.Exit code) = IsInt code
@@ -66,12 +77,17 @@ IsWellMade s past _ = Unit {0}
 
 -- ---- the same as tests
 
+-- whether it is a portal to a service that was exported, with its interface
+unfoldable pub is_portal_in : Past → ℕ → ClassId → Bool
+is_portal_in past k c = is_id k && is_number (option_map (λ x. x.0) (interface_of past k)) c.0
+
 -- whether the word is within its range
 unfoldable pub is_word_in : Past → ℕ → Word → Bool
 is_word_in past nodes (word.Int n) = has_bits 31 n
 is_word_in past nodes (word.Long n) = has_bits 63 n
 is_word_in past nodes (word.Node k) = nat_lt k nodes
-is_word_in past nodes (word.Portal k c) = is_number (option_map (λ x. x.0) (interface_of past k.0)) c.0
+is_word_in past nodes (word.Portal k c) = is_portal_in past k.0 c
+is_word_in past nodes (word.Mem m) = is_id m.0
 is_word_in past nodes _ = true
 
 -- whether the system has the class
@@ -102,18 +118,24 @@ unfoldable pub is_well_made : System → Past → Act → Bool
 is_well_made s past (act.Create t) = is_some (template_at s t)
 is_well_made s past (act.Print text) = is_text text
 is_well_made s past (act.Export iface k) = is_class s iface.0 && nat_le 1 k && nat_le k thread_limit
-is_well_made s past (act.Bind name service) = is_service_name name
+is_well_made s past (act.Bind name service) = is_service_name name && is_id service.0
 is_well_made s past (act.Lookup name) = is_service_name name
-is_well_made s past (act.Call service method parcel) = is_some (selector_at s method.0) && is_parcel_in s past parcel
-is_well_made s past (act.Return c parcel) = is_parcel_in s past parcel
-is_well_made s past (act.Throw c parcel) = is_parcel_in s past parcel
+is_well_made s past (act.Call service method parcel) = is_some (selector_at s method.0) && is_parcel_in s past parcel && is_id service.0
+is_well_made s past (act.Take c) = is_id c.0
+is_well_made s past (act.Return c parcel) = is_parcel_in s past parcel && is_id c.0
+is_well_made s past (act.Throw c parcel) = is_parcel_in s past parcel && is_id c.0
+is_well_made s past (act.Resume c) = is_id c.0
+is_well_made s past (act.Go t) = is_id t.0
 is_well_made s past (act.Alloc n) = is_int n
-is_well_made s past (act.Get m at width) = is_width width && is_int at
-is_well_made s past (act.Set m at width v) = is_width width && is_int at && is_int v
-is_well_made s past (act.Fill m at count b) = is_int at && is_int count && nat_lt b 256
-is_well_made s past (act.Copy m at k k_at count) = is_int at && is_int k_at && is_int count
-is_well_made s past (act.Sub m at count) = is_int at && is_int count
-is_well_made s past (act.Split m at) = is_int at
+is_well_made s past (act.Size m) = is_id m.0
+is_well_made s past (act.Get m at width) = is_width width && is_int at && is_id m.0
+is_well_made s past (act.Set m at width v) = is_width width && is_int at && is_int v && is_id m.0
+is_well_made s past (act.Fill m at count b) = is_int at && is_int count && nat_lt b 256 && is_id m.0
+is_well_made s past (act.Copy m at k k_at count) = is_int at && is_int k_at && is_int count && is_id m.0 && is_id k.0
+is_well_made s past (act.Sub m at count) = is_int at && is_int count && is_id m.0
+is_well_made s past (act.Split m at) = is_int at && is_id m.0
+is_well_made s past (act.Revoke m) = is_id m.0
+is_well_made s past (act.Release m) = is_id m.0
 is_well_made s past (act.Spawn name) = is_text name
 is_well_made s past (act.Kill k) = is_int k
 is_well_made s past (act.Exit code) = is_int code
@@ -146,5 +168,5 @@ IsBuilt a = IsTrue (is_built a)
 
 -- what a computed row opens
 unfoldable pub opened_well_made : Unit {0}
-unfolding is_word_in is_class is_parcel_in is_exception is_end_reason is_well_made is_built
+unfolding is_portal_in is_word_in is_class is_parcel_in is_exception is_end_reason is_well_made is_built
 opened_well_made = tt

@@ -4,6 +4,10 @@ use Rattle.std.specs.List.{AllByRecursion, list_all}
 use Rattle.std.specs.Int.{w32}
 use Rattle.program_model.specs.Limits.{text_limit, name_limit}
 
+-- the number of a domain, a thread, a service, a call or a memory object: one of 32 bits
+abbrev pub IsId : ℕ → Type 0
+IsId n = n < 2 ^ 32
+
 -- a number of 32 bits with a sign
 abbrev pub IsInt : ℤ → Type 0
 IsInt n = FitsSigned w32 n
@@ -28,6 +32,10 @@ abbrev pub IsWidth : ℕ → Type 0
 IsWidth w = (w ≡ 1) ⊎ (w ≡ 2) ⊎ (w ≡ 4)
 
 -- ---- the same as tests
+
+-- whether it can be the number of a thing
+unfoldable pub is_id : ℕ → Bool
+is_id n = nat_lt n (2 ^ 32)
 
 -- whether the number has so many bits besides its sign
 unfoldable pub has_bits : ℕ → ℤ → Bool
@@ -56,5 +64,5 @@ is_width w = (w == 1) || (w == 2) || (w == 4)
 
 -- what a computed case opens
 unfoldable pub opened_ranges : Unit {0}
-unfolding has_bits is_int is_text is_name_unit is_service_name is_width
+unfolding is_id has_bits is_int is_text is_name_unit is_service_name is_width
 opened_ranges = tt

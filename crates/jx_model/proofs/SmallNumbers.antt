@@ -1,4 +1,4 @@
--- The domain and the thread of an entry that may come next have small numbers.
+-- Numbers of domains, threads and services are small, and those of the domain and the thread of an entry that may come next.
 use Rattle.std.proofs.Common.{◌≡◌, ℕ, ◌*◌, ◌^◌, ◌<◌, ◌≤◌, Bool, true, false, nat_le, nat_lt, ◌==◌, if◌then◌else◌, List, [], ◌∷◌, length, Option, Some, None, is_some, refl, sym, ap, ◌∙◌, inl, inr, arith, length-append}
 use Rattle.std.proofs.lemmas.List.{length-replicate}
 use Rattle.std.proofs.lemmas.Bool.Decides.{nat_tests}
@@ -62,7 +62,7 @@ domains_step s past e true next h few = omega (arith, count_new is_birth e past 
 domains_step s past e false next h few = omega (arith, count_same is_birth e past h)
 
 -- at most 64 domains are made
-domains_few : (s : System) (past : Past) → IsAdmittedPast s past → domains_made past ≤ 64
+pub domains_few : (s : System) (past : Past) → IsAdmittedPast s past → domains_made past ≤ 64
 unfolding count_where
 domains_few s [] h = omega arith
 domains_few s (e ∷ past) h = domains_step s past e (is_birth e) h.0 refl (domains_few s past h.1)
@@ -135,7 +135,7 @@ threads_step s past e d false next h few =
     omega (arith, length-append (service_threads past d) (new_threads_of d e), added_to d e, (added_few s past e.act e.reply next.well_made).1 h, count_same is_export e past h)
 
 -- a domain has at most 8 threads for each service
-threads_few : (s : System) (past : Past) (d : ℕ) → IsAdmittedPast s past → length (service_threads past d) ≤ 8 * services_made past
+pub threads_few : (s : System) (past : Past) (d : ℕ) → IsAdmittedPast s past → length (service_threads past d) ≤ 8 * services_made past
 unfolding service_threads count_where
 threads_few s [] d h = omega arith
 threads_few s (e ∷ past) d h = threads_step s past e d (is_export e) h.0 refl (threads_few s past d h.1)
@@ -143,7 +143,7 @@ threads_few s (e ∷ past) d h = threads_step s past e d (is_export e) h.0 refl 
 -- ---- entries
 
 -- a live domain is one of those made
-live_made : (past : Past) (d : ℕ) → is_live past d ≡ true → d ≤ domains_made past
+pub live_made : (past : Past) (d : ℕ) → is_live past d ≡ true → d ≤ domains_made past
 unfolding is_live is_made
 live_made past d h = let q = both (nat_lt 0 d) (nat_le d (domains_made past)) (both (is_made past d) _ h).0 in let l : nat_le d (domains_made past) ≡ true = q.1 in grind (arith, nat_tests)
 
