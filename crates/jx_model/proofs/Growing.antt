@@ -15,7 +15,7 @@ use Rattle.program_model.specs.ParcelParts.{parcel_cells}
 use Rattle.jx_base.specs.Histories.{Past, past_of, nth_entry}
 use Rattle.jx_model.specs.Moments.{IsMoment, BeginsWith, HasGrown}
 use Rattle.jx_model.specs.Portals.{is_export, export_of, interface_of, exported_interface}
-use Rattle.jx_model.specs.WellMade.{IsWellMade, IsWordIn, IsParcelIn}
+use Rattle.jx_model.specs.WellMade.{IsPortalIn, IsWellMade, IsWordIn, IsParcelIn}
 use Rattle.jx_model.specs.Legal.{IsNext, IsAdmittedPast}
 use Rattle.jx_base.proofs.NthEntries.{nth_stays}
 use Rattle.std.specs.Option.{option_and_then}
@@ -46,7 +46,7 @@ grown whole start b = (reverse b.0, ap reverse b.1 ∙ reverse-append start.entr
 
 -- ---- what is well made stays so
 
-interface_stays : (e : Entry) (past : Past) (k : ℕ) (c : ClassId) → interface_of past k ≡ Some c → interface_of (e ∷ past) k ≡ Some c
+pub interface_stays : (e : Entry) (past : Past) (k : ℕ) (c : ClassId) → interface_of past k ≡ Some c → interface_of (e ∷ past) k ≡ Some c
 unfolding interface_of export_of
 interface_stays e past k c h = by (nth_entry is_export past k) refl h
   where
@@ -55,8 +55,12 @@ interface_stays e past k c h = by (nth_entry is_export past k) refl h
     by None q h = cc
     by (Some x) q h = ap (λ (o : Option Entry). option_and_then (λ x. exported_interface x.act x.reply) o) (nth_stays is_export e past k x q) ∙ h
 
+-- a portal stays one
+pub portal_stays : (e : Entry) (past : Past) (k : ℕ) (c : ClassId) → IsPortalIn past k c → IsPortalIn (e ∷ past) k c
+portal_stays e past k c h = (h.0, interface_stays e past k c h.1)
+
 word_stays : (e : Entry) (past : Past) (n : ℕ) (w : Word) → IsWordIn past n w → IsWordIn (e ∷ past) n w
-word_stays e past n (word.Portal k c) h = (h.0, interface_stays e past k.0 c h.1)
+word_stays e past n (word.Portal k c) h = portal_stays e past k.0 c h
 word_stays e past n _ h = h
 
 words_stay : (e : Entry) (past : Past) (n : ℕ) (ws : List Word) → AllByRecursion (IsWordIn past n) ws → AllByRecursion (IsWordIn (e ∷ past) n) ws
@@ -80,6 +84,14 @@ stays_after s past (e ∷ later) a h = act_stays s e (later ++ past) a (stays_af
 -- an act that is well made stays so as the past grows
 pub stays_well_made : (s : System) (old new : Past) (a : Act) → HasGrown old new → IsWellMade s old a → IsWellMade s new a
 stays_well_made s old new a g h = subst (λ (p : Past). IsWellMade s p a) (sym g.1) (stays_after s old g.0 a h)
+
+portal_on : (past later : Past) (k : ℕ) (c : ClassId) → IsPortalIn past k c → IsPortalIn (later ++ past) k c
+portal_on past [] k c h = h
+portal_on past (e ∷ later) k c h = portal_stays e (later ++ past) k c (portal_on past later k c h)
+
+-- a portal stays one as the past grows
+pub portal_grows : (old new : Past) (k : ℕ) (c : ClassId) → HasGrown old new → IsPortalIn old k c → IsPortalIn new k c
+portal_grows old new k c g h = subst (λ (p : Past). IsPortalIn p k c) (sym g.1) (portal_on old g.0 k c h)
 
 -- what came before is admitted
 pub grown_admitted : (s : System) (old new : Past) → HasGrown old new → IsAdmittedPast s new → IsAdmittedPast s old

@@ -105,7 +105,7 @@ new_parts_in : (s : System) (past : Past) (olds : List Part) (x : ℕ) (a : Act)
 unfolding new_parts part_within sides_at
 new_parts_in s past olds x (act.Alloc n) (reply.Made m g) w h = (int_size n w, tt)
 new_parts_in s past olds x (act.Sub m at count) (reply.Object new) w h = made_in (numbered olds m.0) _ (λ o e. (int_size count w.1, tt))
-new_parts_in s past olds x (act.Split m at) (reply.Pair a b) w h = made_in (numbered olds m.0) _ (λ o e. (int_size at w, (omega (arith, number_in olds m.0 o h e), tt)))
+new_parts_in s past olds x (act.Split m at) (reply.Pair a b) w h = made_in (numbered olds m.0) _ (λ o e. (int_size at w.0, (omega (arith, number_in olds m.0 o h e), tt)))
 new_parts_in s past olds x (act.Revoke m) (reply.Object new) w h = made_in (numbered olds m.0) _ (λ o e. (number_in olds m.0 o h e, tt))
 new_parts_in s past olds x _ _ w h = tt
 

@@ -27,11 +27,12 @@ use Rattle.machine_model.specs.BuiltInMethods.{BuiltInOutcome, Gives, Performs, 
 use Rattle.jx_base.specs.Histories.{Past}
 use Rattle.program_model.specs.Lookup.{class_named, method_at, selector_at, selected_method, is_built_in, is_below, shape_fits, object_fits, Shape, IntShape, LongShape, NullShape, ObjectShape, PortalShape, Unknown}
 use Rattle.machine_model.specs.ObjectRows.{all_fit, fits_class, with_result}
-use Rattle.jx_model.specs.Portals.{interface_of}
 use Rattle.machine_model.specs.State.{Store, Going, Returned, Threw, Bad, Thread, State, class_of_object, shape_of, new_object, frame_behind, with_values}
 use Rattle.machine_model.specs.MachineThreads.{thread_at, with_thread, with_store, with_less_fuel, with_stage, at_rest, idle_thread, after_throw, after_raise, after_begin}
 use Rattle.machine_model.specs.AfterEntry.{taken_at, after_result, after_split, exception_of, after_reply, with_nodes, root_values, service_object, after_built_in, after_selection, selected_at, after_roots, parameters_of, after_take, expected_types, after_value, thrown_root, after_thrown, after_resume, object_of_value, exported_object, with_export, after_end, with_running_thread, after_act, after_entry}
-use Rattle.jx_model.specs.WellMade.{IsClass}
+use Rattle.jx_model.specs.WellMade.{IsClass, IsPortalIn}
+use Rattle.program_model.specs.Ranges.{IsId}
+use Rattle.jx_base.specs.declared.ids.ObjectId.{ObjectId}
 use Rattle.machine_laws.specs.Handed.{IsHanded, IsReplyIn, IsExportedIn}
 use Rattle.machine_laws.specs.Values.{IsValueIn, IsValueInSome, IsObject, IsStoreIn, IsExportIn, IsFrameIn, IsThreadIn, IsStateIn}
 use Rattle.machine_model.specs.Conditions.{local_count}
@@ -143,18 +144,18 @@ module _ (s : System) (past : Past) (z : IsSound s) where
           result_in (with_store st y.0) t x (Some (value.Ref y.1)) (set_store s past z st y.0 h l) (later_frames s past z st.store y.0 l x.frames i) (ap is_some m.object)
 
   -- two memory objects may stand in any object
-  memory_cells : (store : Store) (a b : _) (c : ℕ) → c ≢ string_class → AreCellsOf past store c (value.Mem a ∷ value.Mem b ∷ [])
+  memory_cells : (store : Store) (a b : ObjectId) (c : ℕ) → IsId a.0 → IsId b.0 → c ≢ string_class → AreCellsOf past store c (value.Mem a ∷ value.Mem b ∷ [])
   unfolding unit_of
-  memory_cells store a b c n = record { values = (tt, (tt, tt)); units = λ e. absurd (n e); text = λ e. (tt, (tt, tt)) }
+  memory_cells store a b c i j n = record { values = (i, (j, tt)); units = λ e. absurd (n e); text = λ e. (tt, (tt, tt)) }
 
   reply_in : (st : State) (t : ℕ) (x : Thread) (r : Reply) → IsStateIn s past st → Fs s past z st.store x.frames → IsReplyIn s past r → IsStateIn s past (after_reply s st t x r)
   unfolding after_reply
   reply_in st t x (reply.Service service c) h i k = result_in st t x (Some (value.Portal service c)) h i k
   reply_in st t x reply.NoName h i k = result_in st t x (Some value.Null) h i tt
   reply_in st t x (reply.Number n) h i k = result_in st t x (Some (value.Int n)) h i k
-  reply_in st t x (reply.Made m g) h i k = result_in st t x (Some (value.Mem m)) h i tt
-  reply_in st t x (reply.Object m) h i k = result_in st t x (Some (value.Mem m)) h i tt
-  reply_in st t x (reply.Pair a b) h i k = split_in st t x (value.Mem a ∷ value.Mem b ∷ []) h i (memory_cells st.store a b)
+  reply_in st t x (reply.Made m g) h i k = result_in st t x (Some (value.Mem m)) h i k
+  reply_in st t x (reply.Object m) h i k = result_in st t x (Some (value.Mem m)) h i k
+  reply_in st t x (reply.Pair a b) h i k = split_in st t x (value.Mem a ∷ value.Mem b ∷ []) h i (λ c n. memory_cells st.store a b c k.0 k.1 n)
   reply_in st t x (reply.Domain d g) h i k = result_in st t x (Some (value.Int (pos d.0))) h i k
   reply_in st t x (reply.Refused r) h i k = raise_in s past z st t x (exception_of r) h i (refusal_class r)
   reply_in st t x _ h i k = result_in st t x None h i tt
@@ -332,11 +333,11 @@ module _ (s : System) (past : Past) (z : IsSound s) where
   abbrev store_of : Store → ℕ → ServiceId → ClassId → Store
   store_of store r service iface = record store { exports = store.exports ++ record { object = r; service = service; iface = iface } ∷ [] }
 
-  export_later : (store : Store) (r : ℕ) (service : ServiceId) (iface : ClassId) → IsStoreIn s past store → IsObject store r → interface_of past service.0 ≡ Some iface → IsLater s past store (store_of store r service iface)
+  export_later : (store : Store) (r : ℕ) (service : ServiceId) (iface : ClassId) → IsStoreIn s past store → IsObject store r → IsPortalIn past service.0 iface → IsLater s past store (store_of store r service iface)
   export_later store r service iface h o e =
       with_same_objects s past store (store_of store r service iface) refl h h.room h.statics h.literals (all_append (IsExportIn past store) store.exports (record { object = r; service = service; iface = iface } ∷ []) h.exports (record { object = o; known = e }, tt))
 
-  export_in : (st : State) (r : ℕ) (service : ServiceId) (iface : ClassId) (n : ℕ) → IsStateIn s past st → IsObject st.store r → interface_of past service.0 ≡ Some iface → IsStateIn s past (with_export st r service iface n)
+  export_in : (st : State) (r : ℕ) (service : ServiceId) (iface : ClassId) (n : ℕ) → IsStateIn s past st → IsObject st.store r → IsPortalIn past service.0 iface → IsStateIn s past (with_export st r service iface n)
   unfolding with_export idle_thread
   export_in st r service iface n h o e =
       let l = export_later st.store r service iface h.store o e in
@@ -348,7 +349,7 @@ module _ (s : System) (past : Past) (z : IsSound s) where
             (all_replicate (IsThreadIn s past new) n idle_thread (record { frames = tt; stage = tt }));
       }
 
-  export_reply_in : (st : State) (t : ℕ) (x : Thread) (iface : ClassId) (n : ℕ) (service : ServiceId) (c : ClassId) → IsStateIn s past st → Fs s past z st.store x.frames → interface_of past service.0 ≡ Some c → interface_of past service.0 ≡ Some iface →
+  export_reply_in : (st : State) (t : ℕ) (x : Thread) (iface : ClassId) (n : ℕ) (service : ServiceId) (c : ClassId) → IsStateIn s past st → Fs s past z st.store x.frames → IsPortalIn past service.0 c → IsPortalIn past service.0 iface →
       IsStateIn s past (after_reply s (with_export (with_less_fuel st) (exported_object x) service iface n) t x (reply.Service service c))
   unfolding with_export with_less_fuel
   export_reply_in st t x iface n service c h j i e =

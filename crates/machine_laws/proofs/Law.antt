@@ -27,14 +27,17 @@ use Rattle.machine_model.specs.State.{State, class_of_object, static_types}
 use Rattle.jx_base.proofs.NthEntries.{nth_new}
 use Rattle.machine_laws.specs.Handed.{IsReplyIn, IsExportedIn}
 use Rattle.machine_laws.specs.Law.{RepliesHold, NextIsWellMade}
-use Rattle.machine_laws.specs.Values.{IsStoreIn, IsStateIn}
+use Rattle.machine_laws.specs.Values.{IsStoreIn, IsStateIn, ServeKnownCalls}
 use Rattle.machine_laws.specs.Sound.{IsSound}
 use Rattle.machine_laws.proofs.Lists.{all_images}
 use Rattle.machine_laws.proofs.EntryValues.{entry_in, class_or_object}
 use Rattle.machine_laws.proofs.NumericValues.{built_in_class}
 use Rattle.machine_laws.proofs.StateValues.{at_act_in, act_in_in, finish_in, IsNextIn}
 use Rattle.machine_laws.proofs.Stores.{default_in, state_of_past}
-use Rattle.std.specs.Option.{option_and_then, option_map}
+use Rattle.machine_laws.proofs.ServedCalls.{TakesKnownCall, at_act_known, entry_known, start_known}
+use Rattle.jx_model.proofs.SmallNumbers.{services_few}
+use Rattle.jx_model.specs.WellMade.{IsPortalIn, IsWellMade}
+use Rattle.std.specs.Option.{option_and_then}
 
 -- ---- the start
 
@@ -65,6 +68,37 @@ begun_in s past t z h = by (template_at s t) refl h
     by None e h = cc
     by (Some x) e h = start_in s past x z (z.heaps t x e)
 
+-- ---- known calls
+
+begun_known : (s : System) (t : ℕ) → ServeKnownCalls (domain_state s t [])
+unfolding domain_state no_state
+begun_known s t = by (template_at s t)
+  where
+    by : (o : Option Template) → ServeKnownCalls (elim o as (λ _. State) [ None ↦ no_state | Some x ↦ start_of s x ])
+    by None = tt
+    by (Some x) = start_known s x
+
+-- an act that is well made takes a call with a number of 32 bits
+takes_known : (s : System) (past : Past) (a : Act) → IsWellMade s past a → TakesKnownCall s a
+takes_known s past (act.Take c) h = h
+takes_known s past _ h = tt
+
+own_known : (s : System) (t d : ℕ) (e : Entry) (past : Past) → IsNext s past e →
+    ServeKnownCalls (domain_state s t (own_entries past d)) → ServeKnownCalls (domain_state s t (own_entries (e ∷ past) d))
+unfolding own_entries domain_state
+own_known s t d e past n h = by (is_own d e)
+  where
+    by : (b : Bool) → ServeKnownCalls (domain_state s t (cond b (e ∷ filter (is_own d) past) (filter (is_own d) past)))
+    by true = entry_known s (state_at_act s (domain_state s t (filter (is_own d) past))) e
+        (at_act_known s (domain_state s t (filter (is_own d) past)) h) (takes_known s past e.act n.well_made)
+    by false = h
+
+-- the calls that a domain's threads serve have numbers of 32 bits
+pub calls_known : (s : System) (t d : ℕ) (past : Past) → IsAdmittedPast s past → ServeKnownCalls (domain_state s t (own_entries past d))
+unfolding own_entries
+calls_known s t d [] a = begun_known s t
+calls_known s t d (e ∷ past) a = own_known s t d e past a.0 (calls_known s t d past a.1)
+
 -- ---- exports
 
 is_made : (iface : ClassId) (k : ℕ) (service : ServiceId) (c : ClassId) → exported_interface (act.Export iface k) (reply.Service service c) ≡ Some iface
@@ -72,46 +106,50 @@ unfolding exported_interface
 is_made iface k service c = refl
 
 -- an export that made a service made it with its interface
-pub exported : (s : System) (e : Entry) (past : Past) (d : ℕ) (a : Act) (r : Reply) → r ≡ reply_to s past d a → e.act ≡ a → e.reply ≡ r → IsExportedIn (e ∷ past) a r
+pub exported : (s : System) (e : Entry) (past : Past) (d : ℕ) (a : Act) (r : Reply) → IsAdmittedPast s past → r ≡ reply_to s past d a → e.act ≡ a → e.reply ≡ r → IsExportedIn (e ∷ past) a r
 unfolding reply_to new_service ◌refuses◌else◌ interface_of export_of is_export
-exported s e past d (act.Export iface k) (reply.Service service c) q f g = by (nat_le (service_limit s) (services_made past)) q
+exported s e past d (act.Export iface k) (reply.Service service c) admitted q f g = by (nat_le (service_limit s) (services_made past)) q
   where
     both_are : exported_interface e.act e.reply ≡ Some iface
     both_are = ap (λ (a : Act). exported_interface a e.reply) f ∙ ap (exported_interface (act.Export iface k)) g ∙ is_made iface k service c
 
-    by : (b : Bool) → reply.Service service c ≡ (if b then reply.Refused refusal.TooMany else reply.Service (record { 0 = services_made past + 1 }) iface) → interface_of (e ∷ past) service.0 ≡ Some iface
+    by : (b : Bool) → reply.Service service c ≡ (if b then reply.Refused refusal.TooMany else reply.Service (record { 0 = services_made past + 1 }) iface) → IsPortalIn (e ∷ past) service.0 iface
     by true q = cc
     by false q =
         let n : service ≡ record { 0 = services_made past + 1 } = cc in
-        ap (λ (o : Option Entry). option_and_then (λ x. exported_interface x.act x.reply) o) (nth_new is_export e past service.0 (ap is_some both_are) (ap (λ (k : ServiceId). k.0) n)) ∙ both_are
-exported s e past d _ r q f g = tt
+        let number : service.0 ≡ services_made past + 1 = ap (λ (k : ServiceId). k.0) n in (
+          omega (arith, number, services_few s past admitted),
+          ap (λ (o : Option Entry). option_and_then (λ x. exported_interface x.act x.reply) o)
+          (nth_new is_export e past service.0 (ap is_some both_are) number) ∙ both_are,
+        )
+exported s e past d _ r admitted q f g = tt
 
 -- ---- the law
 
-entry_exported : (s : System) (e : Entry) (past : Past) → IsNext s past e → IsExportedIn (e ∷ past) e.act e.reply
-entry_exported s e past n = exported s e past e.domain.0 e.act e.reply n.reply refl refl
+entry_exported : (s : System) (e : Entry) (past : Past) → IsAdmittedPast s past → IsNext s past e → IsExportedIn (e ∷ past) e.act e.reply
+entry_exported s e past a n = exported s e past e.domain.0 e.act e.reply a n.reply refl refl
 
 -- replies of what came before
 replies_before : (s : System) (e : Entry) (past : Past) → RepliesHold s (e ∷ past) → RepliesHold s past
 replies_before s e past h f p m = h f p (e ∷ m.0, ap (λ (xs : Past). e ∷ xs) m.1)
 
-own_state : (s : System) (t d : ℕ) (e : Entry) (past : Past) → IsSound s → IsNext s past e → IsReplyIn s (e ∷ past) e.reply → IsStateIn s past (domain_state s t (own_entries past d)) → IsStateIn s (e ∷ past) (domain_state s t (own_entries (e ∷ past) d))
+own_state : (s : System) (t d : ℕ) (e : Entry) (past : Past) → IsSound s → IsAdmittedPast s past → IsNext s past e → IsReplyIn s (e ∷ past) e.reply → IsStateIn s past (domain_state s t (own_entries past d)) → IsStateIn s (e ∷ past) (domain_state s t (own_entries (e ∷ past) d))
 unfolding own_entries domain_state
-own_state s t d e past z n r h = by (is_own d e)
+own_state s t d e past z a n r h = by (is_own d e)
   where
     by : (b : Bool) → IsStateIn s (e ∷ past) (domain_state s t (cond b (e ∷ filter (is_own d) past) (filter (is_own d) past)))
     by true = entry_in s (e ∷ past) z (state_at_act s (domain_state s t (filter (is_own d) past))) e
-        (state_of_past s past (e ∷ past) (state_at_act s (domain_state s t (filter (is_own d) past))) (e ∷ [], refl) (at_act_in s past z (domain_state s t (filter (is_own d) past)) h)) r (entry_exported s e past n)
+        (state_of_past s past (e ∷ past) (state_at_act s (domain_state s t (filter (is_own d) past))) (e ∷ [], refl) (at_act_in s past z (domain_state s t (filter (is_own d) past)) h (calls_known s t d past a))) r (entry_exported s e past a n)
     by false = state_of_past s past (e ∷ past) (domain_state s t (filter (is_own d) past)) (e ∷ [], refl) h
 
 -- the state of a domain is one of values
 pub state_in : (s : System) (t d : ℕ) (past : Past) → IsSound s → IsSome (template_at s t) → IsAdmittedPast s past → RepliesHold s past → IsStateIn s past (domain_state s t (own_entries past d))
 unfolding own_entries
 state_in s t d [] z h a r = begun_in s [] t z h
-state_in s t d (e ∷ past) z h a r = own_state s t d e past z a.0 (r e past ([], refl)) (state_in s t d past z h a.1 (replies_before s e past r))
+state_in s t d (e ∷ past) z h a r = own_state s t d e past z a.1 a.0 (r e past ([], refl)) (state_in s t d past z h a.1 (replies_before s e past r))
 
 -- what a domain performs next is well made
 pub next_well_made : (s : System) (past : Past) → IsSound s → IsAdmittedPast s past → RepliesHold s past → NextIsWellMade s past
 unfolding next_act
 next_well_made s past z a r d t b h e =
-    subst (λ (n : NextAct). IsNextIn s past z n) e (act_in_in s past z (state_at_act s (domain_state s t (own_entries past d))) (at_act_in s past z (domain_state s t (own_entries past d)) (state_in s t d past z h a r)))
+    subst (λ (n : NextAct). IsNextIn s past z n) e (act_in_in s past z (state_at_act s (domain_state s t (own_entries past d))) (at_act_in s past z (domain_state s t (own_entries past d)) (state_in s t d past z h a r) (calls_known s t d past a)) (at_act_known s (domain_state s t (own_entries past d)) (calls_known s t d past a)))

@@ -30,10 +30,11 @@ use Rattle.machine_model.specs.State.{Store, class_of_object, shape_of, cells_of
 use Rattle.program_model.specs.Types.{parameter_types, is_reference_type, cut_to_type, opened_types}
 use Rattle.machine_model.specs.BuiltInMethods.{BuiltInOutcome, BuiltInMethod, Gives, Performs, Raises, HasNoRoom, Unfit, int_of_bool, result_value, act_if, unit_of, text_of, text_cells, with_new_text, is_short, constructor, identity_test, message_constructor, first_cell, text_length, unit_at, text_unit, is_text, text_test, hash_of, text_hash, text_concatenation, builder_constructor, appended_text, appended_number, appended_unit, appended_bool, append_of, text_act, int_act, pause, lookup, bind, interface_named, export_of, is_thread_count, export, memory_act, memory_int_act, memory_ints_act, fill, copy, built_in_method, object_effects, string_effects, builder_effects, constructor_effects, message_effects, zero_effects, memory_effects, effects_of, is_of, built_in_outcome}
 use Rattle.jx_model.specs.WellMade.{IsClass, IsWellMade, is_well_made}
-use Rattle.program_model.specs.Ranges.{IsText, IsInt, is_service_name}
+use Rattle.program_model.specs.Ranges.{IsId, IsText, IsInt, is_service_name}
 use Rattle.jx_base.proofs.BasicLaws.{both, eq_of, differs}
 use Rattle.jx_model.proofs.WellMadeTest.{well_made_test}
-use Rattle.machine_laws.specs.Values.{IsValueIn, IsValueInSome, IsUnitValue, IsTextIfObject, IsStoreIn, cell_limit}
+use Rattle.machine_laws.specs.Values.{IsValueIn, IsValueInSome, IsUnitValue, IsStoreIn, cell_limit}
+use Rattle.machine_model.specs.Conditions.{IsTextIfObject}
 use Rattle.machine_laws.specs.Sound.{IsSound}
 use Rattle.machine_laws.proofs.Lists.{all_append, all_get, all_map, all_found}
 use Rattle.machine_laws.proofs.NumericValues.{then_some, built_in_class}
@@ -482,36 +483,36 @@ module _ (s : System) (past : Past) (store : Store) (z : IsSound s) (h : IsStore
   lookup_in (value.Ref r ∷ []) = act_if_in (is_service_name (text_of store r)) range_exception (act.Lookup (text_of store r)) range_class (name_tested (text_of store r))
   lookup_in _ = tt
 
-  bind_in : (args : List Value) → N (bind s store args)
+  bind_in : (args : List Value) → AllByRecursion V args → N (bind s store args)
   unfolding bind
-  bind_in (value.Null ∷ p ∷ []) = null_class
-  bind_in (value.Ref r ∷ value.Null ∷ []) = null_class
-  bind_in (value.Ref r ∷ value.Portal k c ∷ []) = by (is_service_name (text_of store r)) refl
+  bind_in (value.Null ∷ p ∷ []) i = null_class
+  bind_in (value.Ref r ∷ value.Null ∷ []) i = null_class
+  bind_in (value.Ref r ∷ value.Portal k c ∷ []) i = by (is_service_name (text_of store r)) refl
     where
       by : (b : Bool) → is_service_name (text_of store r) ≡ b → N (if b then Performs (act.Bind (text_of store r) k) else Raises range_exception)
-      by true e = name_tested (text_of store r) e
+      by true e = (name_tested (text_of store r) e, i.1.0.0)
       by false e = range_class
-  bind_in (value.Ref r ∷ value.Ref o ∷ []) = neither (is_service_name (text_of store r))
+  bind_in (value.Ref r ∷ value.Ref o ∷ []) i = neither (is_service_name (text_of store r))
     where
       neither : (b : Bool) → N (if b then Raises class_cast_exception else Raises range_exception)
       neither true = cast_class
       neither false = range_class
-  bind_in (value.Ref r ∷ value.Int o ∷ []) = neither (is_service_name (text_of store r))
+  bind_in (value.Ref r ∷ value.Int o ∷ []) i = neither (is_service_name (text_of store r))
     where
       neither : (b : Bool) → N (if b then Raises class_cast_exception else Raises range_exception)
       neither true = cast_class
       neither false = range_class
-  bind_in (value.Ref r ∷ value.Long o ∷ []) = neither (is_service_name (text_of store r))
+  bind_in (value.Ref r ∷ value.Long o ∷ []) i = neither (is_service_name (text_of store r))
     where
       neither : (b : Bool) → N (if b then Raises class_cast_exception else Raises range_exception)
       neither true = cast_class
       neither false = range_class
-  bind_in (value.Ref r ∷ value.Mem o ∷ []) = neither (is_service_name (text_of store r))
+  bind_in (value.Ref r ∷ value.Mem o ∷ []) i = neither (is_service_name (text_of store r))
     where
       neither : (b : Bool) → N (if b then Raises class_cast_exception else Raises range_exception)
       neither true = cast_class
       neither false = range_class
-  bind_in _ = tt
+  bind_in _ i = tt
 
   named_interface : (c : ℕ) (name : List ℕ) (i : ℕ) → interface_named s c name ≡ Some i → IsClass s i
   unfolding interface_named
@@ -565,30 +566,30 @@ module _ (s : System) (past : Past) (store : Store) (z : IsSound s) (h : IsStore
 
   -- ---- jx/Memory
 
-  memory_in : (f : ObjectId → Act) (args : List Value) → ((m : ObjectId) → IsWellMade s past (f m)) → N (memory_act f s store args)
+  memory_in : (f : ObjectId → Act) (args : List Value) → ((m : ObjectId) → IsId m.0 → IsWellMade s past (f m)) → AllByRecursion V args → N (memory_act f s store args)
   unfolding memory_act
-  memory_in f (value.Mem m ∷ []) w = w m
-  memory_in f _ w = tt
+  memory_in f (value.Mem m ∷ []) w i = w m i.0
+  memory_in f _ w i = tt
 
-  memory_int_in : (f : ObjectId → ℤ → Act) (args : List Value) → ((m : ObjectId) (n : ℤ) → IsInt n → IsWellMade s past (f m n)) → AllByRecursion V args → N (memory_int_act f s store args)
+  memory_int_in : (f : ObjectId → ℤ → Act) (args : List Value) → ((m : ObjectId) (n : ℤ) → IsId m.0 → IsInt n → IsWellMade s past (f m n)) → AllByRecursion V args → N (memory_int_act f s store args)
   unfolding memory_int_act
-  memory_int_in f (value.Mem m ∷ value.Int n ∷ []) w i = w m n i.1.0
+  memory_int_in f (value.Mem m ∷ value.Int n ∷ []) w i = w m n i.0 i.1.0
   memory_int_in f _ w i = tt
 
-  memory_ints_in : (f : ObjectId → ℤ → ℤ → Act) (args : List Value) → ((m : ObjectId) (n k : ℤ) → IsInt n → IsInt k → IsWellMade s past (f m n k)) → AllByRecursion V args → N (memory_ints_act f s store args)
+  memory_ints_in : (f : ObjectId → ℤ → ℤ → Act) (args : List Value) → ((m : ObjectId) (n k : ℤ) → IsId m.0 → IsInt n → IsInt k → IsWellMade s past (f m n k)) → AllByRecursion V args → N (memory_ints_act f s store args)
   unfolding memory_ints_act
-  memory_ints_in f (value.Mem m ∷ value.Int n ∷ value.Int k ∷ []) w i = w m n k i.1.0 i.1.1.0
+  memory_ints_in f (value.Mem m ∷ value.Int n ∷ value.Int k ∷ []) w i = w m n k i.0 i.1.0 i.1.1.0
   memory_ints_in f _ w i = tt
 
   fill_in : (args : List Value) → AllByRecursion V args → N (fill s store args)
   unfolding fill
-  fill_in (value.Mem m ∷ value.Int n ∷ value.Int k ∷ value.Int b ∷ []) i = (i.1.0, i.1.1.0, omega arith)
+  fill_in (value.Mem m ∷ value.Int n ∷ value.Int k ∷ value.Int b ∷ []) i = (i.1.0, i.1.1.0, omega arith, i.0)
   fill_in _ i = tt
 
   copy_in : (args : List Value) → AllByRecursion V args → N (copy s store args)
   unfolding copy
   copy_in (value.Mem m ∷ value.Int n ∷ value.Null ∷ value.Int to ∷ value.Int k ∷ []) i = null_class
-  copy_in (value.Mem m ∷ value.Int n ∷ value.Mem o ∷ value.Int to ∷ value.Int k ∷ []) i = (i.1.0, i.1.1.1.0, i.1.1.1.1.0)
+  copy_in (value.Mem m ∷ value.Int n ∷ value.Mem o ∷ value.Int to ∷ value.Int k ∷ []) i = (i.1.0, i.1.1.1.0, i.1.1.1.1.0, i.0, i.1.1.0)
   copy_in _ i = tt
 
   -- ---- the list
@@ -642,7 +643,7 @@ module _ (s : System) (past : Past) (store : Store) (z : IsSound s) (h : IsStore
     (
       λ args i f. export_in args,
       (
-        λ args i f. bind_in args,
+        λ args i f. bind_in args i,
         (
           λ args i f. lookup_in args,
           (
@@ -663,28 +664,28 @@ module _ (s : System) (past : Past) (store : Store) (z : IsSound s) (h : IsStore
   memory_list : AllByRecursion (EffectIn memory_class) memory_effects
   unfolding memory_effects built_in_method
   memory_list = (
-    λ args i f. memory_in (λ m. act.Size m) args (λ m. tt),
+    λ args i f. memory_in (λ m. act.Size m) args (λ m y. y) i,
     (
-      λ args i f. memory_int_in (λ m at. act.Get m at 1) args (λ m n w. (inl refl, w)) i,
+      λ args i f. memory_int_in (λ m at. act.Get m at 1) args (λ m n y w. (inl refl, w, y)) i,
       (
-        λ args i f. memory_int_in (λ m at. act.Get m at 2) args (λ m n w. (inr (inl refl), w)) i,
+        λ args i f. memory_int_in (λ m at. act.Get m at 2) args (λ m n y w. (inr (inl refl), w, y)) i,
         (
-          λ args i f. memory_int_in (λ m at. act.Get m at 4) args (λ m n w. (inr (inr refl), w)) i,
+          λ args i f. memory_int_in (λ m at. act.Get m at 4) args (λ m n y w. (inr (inr refl), w, y)) i,
           (
-            λ args i f. memory_ints_in (λ m at v. act.Set m at 1 v) args (λ m n k w x. (inl refl, w, x)) i,
+            λ args i f. memory_ints_in (λ m at v. act.Set m at 1 v) args (λ m n k y w x. (inl refl, w, x, y)) i,
             (
-              λ args i f. memory_ints_in (λ m at v. act.Set m at 2 v) args (λ m n k w x. (inr (inl refl), w, x)) i,
+              λ args i f. memory_ints_in (λ m at v. act.Set m at 2 v) args (λ m n k y w x. (inr (inl refl), w, x, y)) i,
               (
-                λ args i f. memory_ints_in (λ m at v. act.Set m at 4 v) args (λ m n k w x. (inr (inr refl), w, x)) i,
+                λ args i f. memory_ints_in (λ m at v. act.Set m at 4 v) args (λ m n k y w x. (inr (inr refl), w, x, y)) i,
                 (
                   λ args i f. fill_in args i,
                   (
                     λ args i f. copy_in args i,
                     (
-                      λ args i f. memory_ints_in (λ m at n. act.Sub m at n) args (λ m n k w x. (w, x)) i,
+                      λ args i f. memory_ints_in (λ m at n. act.Sub m at n) args (λ m n k y w x. (w, x, y)) i,
                       (
-                        λ args i f. memory_int_in (λ m at. act.Split m at) args (λ m n w. w) i,
-                        (λ args i f. memory_in (λ m. act.Revoke m) args (λ m. tt), (λ args i f. memory_in (λ m. act.Release m) args (λ m. tt), tt)),
+                        λ args i f. memory_int_in (λ m at. act.Split m at) args (λ m n y w. (w, y)) i,
+                        (λ args i f. memory_in (λ m. act.Revoke m) args (λ m y. y) i, (λ args i f. memory_in (λ m. act.Release m) args (λ m y. y) i, tt)),
                       ),
                     ),
                   ),

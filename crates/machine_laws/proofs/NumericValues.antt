@@ -135,7 +135,7 @@ constant_value past store (value.Long n) h = fits_64 n h
 constant_value past store value.Null h = tt
 constant_value past store (value.Ref r) h = cc
 constant_value past store (value.Portal k c) h = cc
-constant_value past store (value.Mem m) h = tt
+constant_value past store (value.Mem m) h = cc
 
 module _ (s : System) (past : Past) (store : Store) (size : ℕ) where
   -- all locals, and all values of a stack

@@ -42,13 +42,15 @@ use Rattle.jx_base.specs.Histories.{Past}
 use Rattle.program_model.specs.Instructions.{Reading, instruction_at, index_operand}
 use Rattle.program_model.specs.Lookup.{class_at, class_named, method_at, selector_at, selector_of_method, selected_method, class_fits, is_built_in, instance_method, is_instance_method_of, chain_of, chain_within, supers_of, supers_within, parent_list, class_count, is_below, is_interface, shape_fits, shape_fits_class, Shape, ObjectShape, Unknown, constant_at}
 use Rattle.machine_model.specs.NumericRows.{Locals, Stack, as_kind, is_null, slots_of, with_local}
+use Rattle.program_model.specs.Ranges.{IsId}
 use Rattle.program_model.specs.Parcels.{packed}
 use Rattle.machine_model.specs.State.{Store, Core, class_of_object, shape_of, class_of_shape, default_of, kept_value, new_object, new_array, default_cells, cells_of, with_cell, static_types, class_of_frame, with_values, frame_behind, with_running, is_overfull, frame_of, frame_with, locals_with, code_of, code_bytes, is_overflow}
 use Rattle.machine_model.specs.BuiltInMethods.{BuiltInOutcome, Gives, Performs, Raises, HasNoRoom, Unfit, BuiltInMethod, is_of, effects_of, built_in_outcome, text_cells, int_of_bool}
 use Rattle.machine_model.specs.ObjectRows.{ObjectOutcome, given, next_unless_overfull, leaves, leaves_new, literal_of, with_literal, text_row, constant_row, kind_of, component_of, component_for, place_in, at_index, load_row, store_in, store_row, length_row, new_array_row, Making, making_of, with_elements, with_all_elements, nested_arrays, ints_of, has_negative, multi_array_row, field_type, is_object_of, get_field_row, fitting_value, put_field_row, get_static_row, put_static_row, new_row, fits_class, check_row, instance_row, throw_row, Taken, all_fit, taken_arguments, with_object, with_result, built_in_row, enter_row, run_row, portal_row, selected_row, invoke_at, invoke_on, invoke_row, result_of, return_row, return_value_row, return_void_row, name_of_class, type_of, class_row, constant_used_row, plain_row, uses_constant, object_row_in, object_row, is_element_type}
 use Rattle.machine_model.specs.ObjectRows.{ObjectOutcome as object}
 use Rattle.jx_model.specs.WellMade.{IsClass, IsWellMade}
-use Rattle.machine_laws.specs.Values.{IsValueIn, IsValueInSome, IsTextIfObject, IsObject, IsStoreIn, IsFrameIn, HasObjectsOf}
+use Rattle.machine_laws.specs.Values.{IsValueIn, IsValueInSome, IsObject, IsStoreIn, IsFrameIn, HasObjectsOf}
+use Rattle.machine_model.specs.Conditions.{IsTextIfObject}
 use Rattle.machine_laws.specs.Sound.{IsSound, IsResolvedIn}
 use Rattle.machine_laws.proofs.Lists.{all_append, all_drop, all_take, all_reverse, all_get, all_set, all_replicate, all_found}
 use Rattle.machine_laws.proofs.NumericValues.{then_some, mapped_some, kind_same, built_in_class, with_local_in, AreLocals}
@@ -805,13 +807,13 @@ module _ (s : System) (past : Past) (core : Core) (z : IsSound s) (fs : AllByRec
       by k e false true q = native_row_in x.below (built_in_outcome s core.store k x.arguments) i.below (any_native k x.arguments i.arguments (grind (arith, nat_tests, q)) (f k e))
       by k e false false q = enter_in m x i
 
-  portal_in : (service : ServiceId) (m : ℕ) (k : Method) (args : List Value) → method_at s m ≡ Some k → Vs args → R (portal_row core service k args)
+  portal_in : (service : ServiceId) (m : ℕ) (k : Method) (args : List Value) → IsId service.0 → method_at s m ≡ Some k → Vs args → R (portal_row core service k args)
   unfolding portal_row
-  portal_in service m k args e i = by (packed core.store.objects core.store.exports args) refl
+  portal_in service m k args n e i = by (packed core.store.objects core.store.exports args) refl
     where
       by : (o : Option Parcel) → packed core.store.objects core.store.exports args ≡ o → R (elim o as (λ _. ObjectOutcome) [ None ↦ object.Raise copy_exception | Some p ↦ object.Ask (act.Call service k.selector p) ])
       by None q = copy_class
-      by (Some p) q = (z.selectors m k e, packed_in s past core.store h args p i q)
+      by (Some p) q = (z.selectors m k e, packed_in s past core.store h args p i q, n)
 
   -- ---- the method that is selected
 
@@ -864,7 +866,7 @@ module _ (s : System) (past : Past) (core : Core) (z : IsSound s) (fs : AllByRec
       R (invoke_at s core kind m k o (record { arguments = o ∷ others; below = below }))
   unfolding invoke_at
   at_object_in invocation.Special m k o others below e c f = special_in m k o others below e c f
-  at_object_in invocation.Interface m k (value.Portal service iface) others below e c f = portal_in service m k others e c.values
+  at_object_in invocation.Interface m k (value.Portal service iface) others below e c f = portal_in service m k others c.object.0 e c.values
   at_object_in invocation.Interface m k (value.Int n) others below e c f = selected_in k (value.Int n) others below c
   at_object_in invocation.Interface m k (value.Long n) others below e c f = selected_in k (value.Long n) others below c
   at_object_in invocation.Interface m k value.Null others below e c f = selected_in k value.Null others below c

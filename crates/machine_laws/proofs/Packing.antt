@@ -149,7 +149,7 @@ module _ (s : System) (past : Past) (store : Store) (h : IsStoreIn s past store)
   word_in walk (value.Long n) i k = i
   word_in walk value.Null i k = tt
   word_in walk (value.Portal x c) i k = i
-  word_in walk (value.Mem m) i k = tt
+  word_in walk (value.Mem m) i k = i
   word_in walk (value.Ref r) i k = by (export_at store.exports r) refl k
     where
       by : (o : Option Exported) → export_at store.exports r ≡ o → AllByRecursion (Has walk) (if is_some o then [] else r ∷ []) →

@@ -190,7 +190,7 @@ moment_grows past e before m = (m.0 ++ e ∷ [], m.1 ∙ sym (append_assoc m.0 (
 
 -- a parcel is one that a domain can have, of a longer past too
 pub handed_grows : (s : System) (old new : Past) (p : Parcel) → HasGrown old new → IsHanded s old p → IsHanded s new p
-handed_grows s old new p g h = record { parcel = stays_well_made s old new (act.Return (record { 0 = 0 }) p) g h.parcel; texts = h.texts }
+handed_grows s old new p g h = record { parcel = (stays_well_made s old new (act.Return (record { 0 = 0 }) p) g (h.parcel, omega arith)).0; texts = h.texts }
 
 asked_is : (x : Act) (a : Asked) → asked_by x ≡ Some a → x ≡ act.Call a.service a.method a.parcel
 unfolding asked_by
@@ -290,8 +290,8 @@ sent_in s before e p z n k = by k.sent
     texts x i j = sent_texts s before e.domain.0 k.call.0 p z (subst (λ (r : Reply). is_done r ≡ true) (n.reply ∙ ap (reply_to s before e.domain.0) i ∙ j) k.done)
 
     by : (e.act ≡ act.Return k.call p) ⊎ (e.act ≡ act.Throw k.call p) → IsHanded s before p
-    by (inl i) = record { parcel = subst (IsWellMade s before) i n.well_made; texts = texts (act.Return k.call p) i (return_reply s before e.domain.0 k.call p) }
-    by (inr i) = record { parcel = subst (IsWellMade s before) i n.well_made; texts = texts (act.Throw k.call p) i (throw_reply s before e.domain.0 k.call p) }
+    by (inl i) = record { parcel = (subst (IsWellMade s before) i n.well_made).0; texts = texts (act.Return k.call p) i (return_reply s before e.domain.0 k.call p) }
+    by (inr i) = record { parcel = (subst (IsWellMade s before) i n.well_made).0; texts = texts (act.Throw k.call p) i (throw_reply s before e.domain.0 k.call p) }
 
 pub answer_in : (s : System) (past : Past) (c : ℕ) (a : Answer) (p : Parcel) → IsSound s → IsAdmittedPast s past → answer_of past c ≡ Some a → Carries a p → IsHanded s past p
 unfolding answer_of

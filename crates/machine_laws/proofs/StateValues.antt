@@ -1,6 +1,6 @@
 -- Each step of a domain keeps its state one of values, and what it asks for is well made.
 use Rattle.std.proofs.Common.{◌≡◌, refl, sym, ◌∙◌, ap, subst, ℕ, zero, suc, Bool, true, false, List, [], ◌∷◌, Option, Some, None, arith, ◌==◌, inl, inr, slice_get}
-use Rattle.std.specs.Prelude.{if◌then◌else◌}
+use Rattle.std.specs.Prelude.{if◌then◌else◌, IfSome}
 use Rattle.std.specs.List.{AllByRecursion}
 use Rattle.jx_base.specs.declared.act.Act.{Act}
 use Rattle.jx_base.specs.declared.act.Act.TheVariants as act
@@ -28,7 +28,9 @@ use Rattle.machine_model.specs.MachineThreads.{thread_at, with_thread, with_stor
 use Rattle.machine_model.specs.Running.{Outcome, Step, Ask, step, stage_step, framed_step, row, ends_by_bad_code, after_numeric, after_object, after_steps, state_at_act, ending_act, answer_act, result_roots, empty_parcel}
 use Rattle.machine_model.specs.Machine.{NextAct, Does, Idle, act_in}
 use Rattle.jx_model.specs.WellMade.{IsClass, IsWellMade, IsParcelIn}
-use Rattle.machine_laws.specs.Values.{IsValueIn, IsValueInSome, IsObject, IsStoreIn, IsFrameIn, IsStageIn, IsThreadIn, IsStateIn, IsPlaced}
+use Rattle.machine_laws.specs.Values.{IsValueIn, IsValueInSome, IsObject, IsStoreIn, IsFrameIn, IsStageIn, IsThreadIn, IsStateIn, IsPlaced, ServesKnownCall, ServeKnownCalls}
+use Rattle.machine_laws.proofs.ServedCalls.{IsStepOfKnown, step_known}
+use Rattle.program_model.specs.Ranges.{IsId}
 use Rattle.machine_model.specs.Conditions.{local_count}
 use Rattle.machine_laws.specs.Sound.{IsSound}
 use Rattle.machine_laws.specs.Standing.{advanced}
@@ -216,12 +218,12 @@ module _ (s : System) (past : Past) (z : IsSound s) where
   unfolding empty_parcel opened_limits opened_parcel_parts
   empty_in = record { few = omega arith; small = omega arith; classes = tt; cells = tt }
 
-  answer_in : (st : State) (c : CallId) (f : Parcel → Act) (vs : List Value) → IsStateIn s past st → AllByRecursion (IsValueIn past st.store) vs → ((p : Parcel) → IsParcelIn s past p → IsWellMade s past (f p)) → IsWellMade s past (answer_act st c f vs)
+  answer_in : (st : State) (c : CallId) (f : Parcel → Act) (vs : List Value) → IsStateIn s past st → AllByRecursion (IsValueIn past st.store) vs → IsId c.0 → ((p : Parcel) → IsParcelIn s past p → IsWellMade s past (f p)) → IsWellMade s past (answer_act st c f vs)
   unfolding answer_act
-  answer_in st c f vs h i w = by (packed st.store.objects st.store.exports vs) refl
+  answer_in st c f vs h i n w = by (packed st.store.objects st.store.exports vs) refl
     where
       by : (o : Option Parcel) → packed st.store.objects st.store.exports vs ≡ o → IsWellMade s past (elim o as (λ _. Act) [ Some p ↦ f p | None ↦ act.Throw c empty_parcel ])
-      by None e = empty_in
+      by None e = (empty_in, n)
       by (Some p) e = w p (packed_in s past st.store h.store vs p i e)
 
   root_values_in : (st : State) (v : Option Value) → IsValueInSome past st.store v → AllByRecursion (IsValueIn past st.store) (result_roots v)
@@ -236,75 +238,75 @@ module _ (s : System) (past : Past) (z : IsSound s) where
       by None e = tt
       by (Some c) e = object_class_in s past st.store r c h.store e
 
-  ending_in : (st : State) (x : Thread) (g : Stage) → IsStateIn s past st → IsStageIn past st.store g → IsWellMade s past (ending_act st x g)
+  ending_in : (st : State) (x : Thread) (g : Stage) → IsStateIn s past st → ServesKnownCall x → IsStageIn past st.store g → IsWellMade s past (ending_act st x g)
   unfolding ending_act
-  ending_in st x (Returned v) h i = by x.call
+  ending_in st x (Returned v) h known i = by x.call known
     where
-      by : (o : Option CallId) → IsWellMade s past (elim o as (λ _. Act) [ None ↦ act.EndThread None | Some c ↦ answer_act st c (λ p. act.Return c p) (result_roots v) ])
-      by None = tt
-      by (Some c) = answer_in st c (λ p. act.Return c p) (result_roots v) h (root_values_in st v i) (λ p w. w)
-  ending_in st x (Threw r) h i = by x.call
+      by : (o : Option CallId) → IfSome o (λ c. IsId c.0) → IsWellMade s past (elim o as (λ _. Act) [ None ↦ act.EndThread None | Some c ↦ answer_act st c (λ p. act.Return c p) (result_roots v) ])
+      by None n = tt
+      by (Some c) n = answer_in st c (λ p. act.Return c p) (result_roots v) h (root_values_in st v i) n (λ p w. (w, n))
+  ending_in st x (Threw r) h known i = by x.call known
     where
-      by : (o : Option CallId) → IsWellMade s past (elim o as (λ _. Act) [
+      by : (o : Option CallId) → IfSome o (λ c. IsId c.0) → IsWellMade s past (elim o as (λ _. Act) [
         | None ↦ act.EndThread (option_map (λ c. record { 0 = c }) (class_of_object st.store r))
         | Some c ↦ answer_act st c (λ p. act.Throw c p) (value.Ref r ∷ [])
       ])
-      by None = thrown_class st r h
-      by (Some c) = answer_in st c (λ p. act.Throw c p) (value.Ref r ∷ []) h (i, tt) (λ p w. w)
-  ending_in st x Going h i = inr refl
-  ending_in st x Bad h i = inr refl
+      by None n = thrown_class st r h
+      by (Some c) n = answer_in st c (λ p. act.Throw c p) (value.Ref r ∷ []) h (i, tt) n (λ p w. (w, n))
+  ending_in st x Going h known i = inr refl
+  ending_in st x Bad h known i = inr refl
 
-  stage_in : (st : State) (t : ℕ) (x : Thread) (g : Stage) → IsStateIn s past st → IsThreadIn s past st.store x → IsStageIn past st.store g → IsStepIn s past (stage_step s st t x g)
+  stage_in : (st : State) (t : ℕ) (x : Thread) (g : Stage) → IsStateIn s past st → ServesKnownCall x → IsThreadIn s past st.store x → IsStageIn past st.store g → IsStepIn s past (stage_step s st t x g)
   unfolding stage_step
-  stage_in st t x Going h k i = framed_in st t x x.frames h k refl
-  stage_in st t x (Returned v) h k i = ending_in st x (Returned v) h i
-  stage_in st t x (Threw r) h k i = ending_in st x (Threw r) h i
-  stage_in st t x Bad h k i = ending_in st x Bad h i
+  stage_in st t x Going h known k i = framed_in st t x x.frames h k refl
+  stage_in st t x (Returned v) h known k i = ending_in st x (Returned v) h known i
+  stage_in st t x (Threw r) h known k i = ending_in st x (Threw r) h known i
+  stage_in st t x Bad h known k i = ending_in st x Bad h known i
 
   -- a step keeps the state one of values, or asks for an act that is well made
-  pub step_in : (st : State) (t : ℕ) → IsStateIn s past st → IsStepIn s past (step s st t)
+  pub step_in : (st : State) (t : ℕ) → IsStateIn s past st → ServeKnownCalls st → IsStepIn s past (step s st t)
   unfolding step thread_at ends_by_bad_code
-  step_in st t h = by (slice_get st.threads t) refl
+  step_in st t h known = by (slice_get st.threads t) refl
     where
       by : (o : Option Thread) → slice_get st.threads t ≡ o → IsStepIn s past (elim o as (λ _. Outcome) [ None ↦ Ask (act.End reason.BadCode) | Some x ↦ stage_step s st t x x.stage ])
       by None e = inr refl
-      by (Some x) e = let k = all_get (IsThreadIn s past st.store) st.threads t x e h.threads in stage_in st t x x.stage h k k.stage
+      by (Some x) e = let k = all_get (IsThreadIn s past st.store) st.threads t x e h.threads in stage_in st t x x.stage h (all_get ServesKnownCall st.threads t x e known) k k.stage
 
-  steps_in : (t n : ℕ) (st : State) → IsStateIn s past st → IsStateIn s past (after_steps s t n st)
+  steps_in : (t n : ℕ) (st : State) → IsStateIn s past st → ServeKnownCalls st → IsStateIn s past (after_steps s t n st)
   unfolding after_steps
-  steps_in t zero st h = h
-  steps_in t (suc n) st h = by (step s st t) (step_in st t h) (λ new k. steps_in t n new k)
+  steps_in t zero st h known = h
+  steps_in t (suc n) st h known = by (step s st t) (step_in st t h known) (step_known s st t known) (λ new k m. steps_in t n new k m)
     where
-      by : (o : Outcome) → IsStepIn s past o → ((new : State) → IsStateIn s past new → IsStateIn s past (after_steps s t n new)) → IsStateIn s past (elim o as (λ _. State) [ Step new ↦ after_steps s t n new | Ask a ↦ st ])
-      by (Step new) k again = again new k
-      by (Ask a) k again = h
+      by : (o : Outcome) → IsStepIn s past o → IsStepOfKnown s o → ((new : State) → IsStateIn s past new → ServeKnownCalls new → IsStateIn s past (after_steps s t n new)) → IsStateIn s past (elim o as (λ _. State) [ Step new ↦ after_steps s t n new | Ask a ↦ st ])
+      by (Step new) k m again = again new k m
+      by (Ask a) k m again = h
 
   -- a state after some steps is one of values
-  pub advanced_in : (n : ℕ) (st : State) → IsStateIn s past st → IsStateIn s past (advanced s n st)
+  pub advanced_in : (n : ℕ) (st : State) → IsStateIn s past st → ServeKnownCalls st → IsStateIn s past (advanced s n st)
   unfolding advanced
-  advanced_in n st h = by st.running
+  advanced_in n st h known = by st.running
     where
       by : (o : Option ℕ) → IsStateIn s past (elim o as (λ _. State) [ None ↦ st | Some t ↦ after_steps s t n st ])
       by None = h
-      by (Some t) = steps_in t n st h
+      by (Some t) = steps_in t n st h known
 
   -- the state at the next act is one of values
-  pub at_act_in : (st : State) → IsStateIn s past st → IsStateIn s past (state_at_act s st)
+  pub at_act_in : (st : State) → IsStateIn s past st → ServeKnownCalls st → IsStateIn s past (state_at_act s st)
   unfolding state_at_act
-  at_act_in st h = by st.running
+  at_act_in st h known = by st.running
     where
       by : (o : Option ℕ) → IsStateIn s past (elim o as (λ _. State) [ None ↦ st | Some t ↦ after_steps s t st.fuel st ])
       by None = h
-      by (Some t) = steps_in t st.fuel st h
+      by (Some t) = steps_in t st.fuel st h known
 
   -- an act that comes next is well made
   abbrev pub IsNextIn : NextAct → Type 0
   IsNextIn (Does a) = IsWellMade s past a
   IsNextIn Idle = Unit {0}
 
-  pub act_in_in : (st : State) → IsStateIn s past st → IsNextIn (act_in s st)
+  pub act_in_in : (st : State) → IsStateIn s past st → ServeKnownCalls st → IsNextIn (act_in s st)
   unfolding act_in
-  act_in_in st h = by st.running
+  act_in_in st h known = by st.running
     where
       stepped : (o : Outcome) → IsStepIn s past o → IsNextIn (elim o as (λ _. NextAct) [ Ask a ↦ Does a | Step new ↦ Does (act.End reason.Fuel) ])
       stepped (Step new) k = inl refl
@@ -312,4 +314,4 @@ module _ (s : System) (past : Past) (z : IsSound s) where
 
       by : (o : Option ℕ) → IsNextIn (elim o as (λ _. NextAct) [ None ↦ Idle | Some t ↦ elim (step s st t) as (λ _. NextAct) [ Ask a ↦ Does a | Step new ↦ Does (act.End reason.Fuel) ] ])
       by None = tt
-      by (Some t) = stepped (step s st t) (step_in st t h)
+      by (Some t) = stepped (step s st t) (step_in st t h known)

@@ -3,9 +3,7 @@ use Rattle.std.proofs.Common.{◌≡◌, refl, sym, ◌∙◌, ap, subst, ℕ, z
 use Rattle.std.specs.Prelude.{slice_set, nat_le, if◌then◌else◌}
 use Rattle.std.specs.List.{AllByRecursion}
 use Rattle.std.proofs.lemmas.Bool.Decides.{nat_tests}
-use Rattle.jx_base.specs.declared.act.Entry.{Entry}
 use Rattle.jx_base.specs.declared.frame.Frame.{Frame}
-use Rattle.jx_base.specs.declared.ids.ClassId.{ClassId}
 use Rattle.jx_base.specs.declared.states.Exported.{Exported}
 use Rattle.jx_base.specs.declared.program.Class.{Class}
 use Rattle.jx_base.specs.declared.program.Field.{Field}
@@ -13,37 +11,21 @@ use Rattle.jx_base.specs.declared.program.System.{System}
 use Rattle.jx_base.specs.declared.value.Value.{Value}
 use Rattle.jx_base.specs.declared.value.Value.TheVariants as value
 use Rattle.program_model.specs.BuiltIn.{string_class, builder_class, opened_built_in}
-use Rattle.jx_base.specs.Histories.{Past, nth_entry}
+use Rattle.jx_base.specs.Histories.{Past}
 use Rattle.program_model.specs.Lookup.{class_at}
 use Rattle.jx_model.specs.Moments.{HasGrown}
-use Rattle.jx_model.specs.Portals.{interface_of, export_of, is_export, exported_interface}
 use Rattle.program_model.specs.Parcels.{HeapObject}
 use Rattle.machine_model.specs.State.{Store, Stage, Going, Returned, Threw, Bad, Thread, State, class_of_object, default_of, new_object, new_array, default_cells, new_exception, cells_of, with_cell}
 use Rattle.program_model.specs.Types.{is_int_type, is_long_type}
 use Rattle.jx_model.specs.WellMade.{IsClass}
-use Rattle.jx_base.proofs.NthEntries.{nth_stays}
-use Rattle.machine_laws.specs.Values.{IsValueIn, IsValueInSome, IsUnitValue, IsTextIfObject, IsObject, IsObjectIn, IsExportIn, IsStoreIn, IsFrameIn, IsStageIn, IsThreadIn, IsStateIn, HasObjectsOf, Grows, cell_limit}
+use Rattle.jx_model.proofs.Growing.{portal_grows}
+use Rattle.machine_laws.specs.Values.{IsValueIn, IsValueInSome, IsUnitValue, IsObject, IsObjectIn, IsExportIn, IsStoreIn, IsFrameIn, IsStageIn, IsThreadIn, IsStateIn, HasObjectsOf, Grows, cell_limit}
+use Rattle.machine_model.specs.Conditions.{IsTextIfObject}
 use Rattle.machine_laws.specs.Sound.{IsSound}
 use Rattle.machine_laws.proofs.Lists.{length_set, all_weaken, all_append, all_get, all_set, all_images}
-use Rattle.std.specs.Option.{option_and_then, option_map}
+use Rattle.std.specs.Option.{option_map}
 
 -- ---- growth
-
-pub interface_after : (e : Entry) (past : Past) (k : ℕ) (c : ClassId) → interface_of past k ≡ Some c → interface_of (e ∷ past) k ≡ Some c
-unfolding interface_of export_of
-interface_after e past k c h = by (nth_entry is_export past k) refl h
-  where
-    by : (o : Option Entry) → nth_entry is_export past k ≡ o → option_and_then (λ x. exported_interface x.act x.reply) o ≡ Some c →
-        option_and_then (λ x. exported_interface x.act x.reply) (nth_entry is_export (e ∷ past) k) ≡ Some c
-    by None q h = cc
-    by (Some x) q h = ap (λ (o : Option Entry). option_and_then (λ x. exported_interface x.act x.reply) o) (nth_stays is_export e past k x q) ∙ h
-
-interface_on : (past later : Past) (k : ℕ) (c : ClassId) → interface_of past k ≡ Some c → interface_of (later ++ past) k ≡ Some c
-interface_on past [] k c h = h
-interface_on past (e ∷ later) k c h = interface_after e (later ++ past) k c (interface_on past later k c h)
-
-pub interface_grows : (old new : Past) (k : ℕ) (c : ClassId) → HasGrown old new → interface_of old k ≡ Some c → interface_of new k ≡ Some c
-interface_grows old new k c g h = subst (λ (p : Past). interface_of p k ≡ Some c) (sym g.1) (interface_on old g.0 k c h)
 
 some_of : {X : Type 0} (o : Option X) → is_some o ≡ true → (x : X) × (o ≡ Some x)
 some_of None h = cc
@@ -58,8 +40,8 @@ module _ (s : System) (p : Past) (before : Store) (q : Past) (after : Store) (g 
   value_grows (value.Long n) h = h
   value_grows value.Null h = tt
   value_grows (value.Ref r) h = object_there before after r g.objects h
-  value_grows (value.Portal k c) h = interface_grows p q k.0 c g.past h
-  value_grows (value.Mem m) h = tt
+  value_grows (value.Portal k c) h = portal_grows p q k.0 c g.past h
+  value_grows (value.Mem m) h = h
 
   pub some_grows : (o : Option Value) → IsValueInSome p before o → IsValueInSome q after o
   some_grows None h = tt
@@ -86,7 +68,7 @@ module _ (s : System) (p : Past) (before : Store) (q : Past) (after : Store) (g 
   }
 
   pub export_grows : (x : Exported) → IsExportIn p before x → IsExportIn q after x
-  export_grows x h = record { object = object_there before after x.object g.objects h.object; known = interface_grows p q x.service.0 x.iface g.past h.known }
+  export_grows x h = record { object = object_there before after x.object g.objects h.object; known = portal_grows p q x.service.0 x.iface g.past h.known }
 
   pub frame_grows : (f : Frame) → IsFrameIn s p before f → IsFrameIn s q after f
   frame_grows f h = record { method = h.method; place = h.place; count = h.count; room = h.room; locals = all_weaken (IsValueInSome p before) (IsValueInSome q after) some_grows f.locals h.locals; stack = values_grow f.stack.values h.stack }

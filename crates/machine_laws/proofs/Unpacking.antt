@@ -15,7 +15,8 @@ use Rattle.program_model.specs.Parcels.{HeapObject, value_of, unpacked_object, u
 use Rattle.machine_model.specs.State.{Store, class_of_object}
 use Rattle.jx_model.specs.WellMade.{IsWordIn, IsClass}
 use Rattle.machine_laws.specs.Handed.{IsUnitWord, IsTextWord, HasTexts, IsHanded}
-use Rattle.machine_laws.specs.Values.{IsValueIn, IsUnitValue, IsTextIfObject, IsObjectIn, IsExportIn, IsStoreIn, HasObjectsOf, Grows, cell_limit}
+use Rattle.machine_laws.specs.Values.{IsValueIn, IsUnitValue, IsObjectIn, IsExportIn, IsStoreIn, HasObjectsOf, Grows, cell_limit}
+use Rattle.machine_model.specs.Conditions.{IsTextIfObject}
 use Rattle.machine_laws.proofs.Lists.{all_weaken, all_append, all_map, all_left, all_right}
 use Rattle.machine_laws.proofs.Stores.{IsLater, begins_with, object_there, grows_to, object_grows, export_grows, values_grow, literals_grow}
 use Rattle.std.specs.Option.{option_map}
@@ -74,7 +75,7 @@ module _ (s : System) (past : Past) (store : Store) (p : Parcel) (h : IsStoreIn 
   word_value (word.Long n) k = k
   word_value word.Null k = tt
   word_value (word.Portal x c) k = k
-  word_value (word.Mem m) k = tt
+  word_value (word.Mem m) k = k
   word_value (word.Node n) k = ap is_some (node_class n) ∙ node_there p.nodes n k
 
   word_unit : (w : Word) → IsUnitWord w → IsUnitValue (value_of (length store.objects) w)

@@ -1,6 +1,6 @@
 -- The law of the machine, from an admitted past alone.
-use Rattle.std.proofs.Common.{◌≡◌, refl, sym, ◌∙◌, ap, subst, ℕ, ◌+◌, ◌<◌, Bool, true, false, [], ◌∷◌, Option, Some, None, arith, ◌⊎◌, inl, inr}
-use Rattle.std.specs.Prelude.{nat_le, if◌then◌else◌}
+use Rattle.std.proofs.Common.{◌≡◌, refl, sym, ◌∙◌, ap, subst, ℕ, ◌+◌, ◌<◌, ◌≤◌, Bool, true, false, [], ◌∷◌, Option, Some, None, arith, ◌⊎◌, inl, inr}
+use Rattle.std.specs.Prelude.{nat_le, nat_lt, if◌then◌else◌}
 use Rattle.std.proofs.lemmas.Bool.Decides.{nat_tests}
 use Rattle.jx_base.specs.declared.act.Act.{Act}
 use Rattle.jx_base.specs.declared.act.Act.TheVariants as act
@@ -34,8 +34,14 @@ use Rattle.machine_laws.specs.Values.{IsStateIn}
 use Rattle.machine_laws.proofs.Bytes.{number_reply_in, size_fits}
 use Rattle.machine_laws.proofs.Law.{exported, state_in, next_well_made}
 use Rattle.machine_laws.proofs.Replies.{asked_in, answer_in, handed_grows}
-use Rattle.machine_laws.proofs.Stores.{interface_grows}
-use Rattle.jx_model.proofs.Growing.{moment, before_admitted}
+use Rattle.jx_model.proofs.Growing.{moment, before_admitted, portal_stays}
+use Rattle.jx_model.proofs.SmallNumbers.{services_few, interface_within}
+use Rattle.jx_model.specs.MemoryObjects.{objects_made}
+use Rattle.jx_model.specs.Replies.{lacks_objects, new_object}
+use Rattle.program_model.specs.Limits.{object_limit}
+use Rattle.program_model.specs.Ranges.{IsId}
+use Rattle.jx_model.specs.WellMade.{IsPortalIn}
+use Rattle.machine_laws.proofs.Law.{calls_known}
 use Rattle.std.specs.Option.{option_and_then}
 
 module _ (s : System) (new : Past) where
@@ -69,11 +75,19 @@ module _ (s : System) (new : Past) where
   unfolding with_object
   object_in past d m f h = refuses_in _ _ _ (refuses_in _ _ _ (given_in _ _ _ h))
 
+  -- objects that the limit leaves room for have numbers of 32 bits
+  numbered_in : (past : Past) (k j : ℕ) → j ≤ k → lacks_objects s past k ≡ false → IsId (new_object past j).0
+  unfolding lacks_objects object_limit new_object
+  numbered_in past k j l e = small (objects_made past) e
+    where
+      small : (n : ℕ) → nat_lt 65536 (n + k) ≡ false → n + j < 4294967296
+      small n e = grind (arith, nat_tests, e, l)
+
   one_in : (past : Past) → I (one_object s past)
   unfolding one_object
-  one_in past = refuses_in _ _ _ tt
+  one_in past = refuses_by _ _ _ (λ e. numbered_in past 1 1 (omega arith) e)
 
-  looked_in : (past : Past) (o : Option ℕ) → ((k : ℕ) (c : ClassId) → interface_of past k ≡ Some c → interface_of new k ≡ Some c) → I (looked_up past o)
+  looked_in : (past : Past) (o : Option ℕ) → ((k : ℕ) (c : ClassId) → interface_of past k ≡ Some c → IsPortalIn new k c) → I (looked_up past o)
   unfolding looked_up portal_reply
   looked_in past None g = tt
   looked_in past (Some k) g = by (interface_of past k) refl
@@ -97,25 +111,25 @@ module _ (s : System) (new : Past) where
   resumed_in (Some Answer.Discarded) h = tt
 
 -- the reply to an export
-export_reply : (s : System) (past : Past) (e : Entry) (iface : ClassId) (k : ℕ) → e.act ≡ act.Export iface k → e.reply ≡ reply_to s past e.domain.0 (act.Export iface k) → IsReplyIn s (e ∷ past) (reply_to s past e.domain.0 (act.Export iface k))
+export_reply : (s : System) (past : Past) (e : Entry) (iface : ClassId) (k : ℕ) → IsAdmittedPast s past → e.act ≡ act.Export iface k → e.reply ≡ reply_to s past e.domain.0 (act.Export iface k) → IsReplyIn s (e ∷ past) (reply_to s past e.domain.0 (act.Export iface k))
 unfolding reply_to new_service ◌refuses◌else◌
-export_reply s past e iface k f g = by (nat_le (service_limit s) (services_made past)) refl
+export_reply s past e iface k h f g = by (nat_le (service_limit s) (services_made past)) refl
   where
     by : (b : Bool) → nat_le (service_limit s) (services_made past) ≡ b → IsReplyIn s (e ∷ past) (if b then reply.Refused refusal.TooMany else reply.Service (record { 0 = services_made past + 1 }) iface)
     by true q = tt
     by false q =
         let r : (if nat_le (service_limit s) (services_made past) then reply.Refused refusal.TooMany else reply.Service (record { 0 = services_made past + 1 }) iface) ≡ reply.Service (record { 0 = services_made past + 1 }) iface =
         ap (λ (b : Bool). if b then reply.Refused refusal.TooMany else reply.Service (record { 0 = services_made past + 1 }) iface) q in
-        exported s e past e.domain.0 (act.Export iface k) (reply.Service (record { 0 = services_made past + 1 }) iface) (sym r) f (g ∙ r)
+        exported s e past e.domain.0 (act.Export iface k) (reply.Service (record { 0 = services_made past + 1 }) iface) h (sym r) f (g ∙ r)
 
 -- the reply to each act is in its ranges
 reply_of : (s : System) (past : Past) (e : Entry) (a : Act) → IsSound s → IsAdmittedPast s past → IsWellMade s past a → e.act ≡ a → e.reply ≡ reply_to s past e.domain.0 a → IsReplyIn s (e ∷ past) (reply_to s past e.domain.0 a)
 unfolding reply_to new_service spawned killed bound called sent_back number_in done_within copied allocated derived divided
 reply_of s past e (act.Create t) z h w f g = domain_in s (e ∷ past) past t
 reply_of s past e (act.Spawn name) z h w f g = given_in s (e ∷ past) _ _ _ (λ t q. domain_in s (e ∷ past) past t)
-reply_of s past e (act.Export iface k) z h w f g = export_reply s past e iface k f g
+reply_of s past e (act.Export iface k) z h w f g = export_reply s past e iface k h f g
 reply_of s past e (act.Bind name service) z h w f g = refuses_in s (e ∷ past) _ _ _ (refuses_in s (e ∷ past) _ _ _ tt)
-reply_of s past e (act.Lookup name) z h w f g = looked_in s (e ∷ past) past (bound_service past name) (λ k c q. interface_grows past (e ∷ past) k c (e ∷ [], refl) q)
+reply_of s past e (act.Lookup name) z h w f g = looked_in s (e ∷ past) past (bound_service past name) (λ k c q. portal_stays e past k c (omega (arith, interface_within past k c q, services_few s past h), q))
 reply_of s past e (act.Call service method parcel) z h w f g = refuses_in s (e ∷ past) _ _ _ (refuses_in s (e ∷ past) _ _ _ (refuses_in s (e ∷ past) _ _ _ (refuses_in s (e ∷ past) _ _ _ tt)))
 reply_of s past e (act.Take c) z h w f g = job_in s (e ∷ past) past (asked_of past c.0) (λ a q. handed_grows s past (e ∷ past) a.parcel (e ∷ [], refl) (asked_in s past c.0 a z h q))
 reply_of s past e (act.Return c p) z h w f g = refuses_in s (e ∷ past) _ _ _ (refuses_in s (e ∷ past) _ _ _ (refuses_in s (e ∷ past) _ _ _ tt))
@@ -124,14 +138,17 @@ reply_of s past e (act.Resume c) z h w f g = resumed_in s (e ∷ past) (answer_o
   | inl i ↦ answer_in s past c.0 (Answer.Value p) p z h i refl
   | inr i ↦ answer_in s past c.0 (Answer.Thrown p) p z h i refl
 ]))
-reply_of s past e (act.Alloc n) z h w f g = refuses_in s (e ∷ past) _ _ _ (refuses_in s (e ∷ past) _ _ _ (given_in s (e ∷ past) _ _ _ (λ g q. tt)))
+reply_of s past e (act.Alloc n) z h w f g =
+    refuses_in s (e ∷ past) _ _ _ (refuses_by s (e ∷ past) _ _ _ (λ l. given_in s (e ∷ past) _ _ _ (λ g q. numbered_in s (e ∷ past) past 1 1 (omega arith) l)))
 reply_of s past e (act.Size m) z h w f g = object_in s (e ∷ past) past e.domain.0 m _ (λ o q. size_fits s past m.0 o h q)
 reply_of s past e (act.Get m at width) z h w f g = object_in s (e ∷ past) past e.domain.0 m _ (λ o q. refuses_in s (e ∷ past) _ _ _ (number_reply_in s past (e ∷ past) o.extent (o.from + not_below_zero at) width w.0 h))
 reply_of s past e (act.Set m at width v) z h w f g = object_in s (e ∷ past) past e.domain.0 m _ (λ o q. refuses_in s (e ∷ past) _ _ _ tt)
 reply_of s past e (act.Fill m at count b) z h w f g = object_in s (e ∷ past) past e.domain.0 m _ (λ o q. refuses_in s (e ∷ past) _ _ _ tt)
 reply_of s past e (act.Copy m at k k_at count) z h w f g = refuses_in s (e ∷ past) _ _ _ (refuses_in s (e ∷ past) _ _ _ (refuses_in s (e ∷ past) _ _ _ tt))
 reply_of s past e (act.Sub m at count) z h w f g = object_in s (e ∷ past) past e.domain.0 m _ (λ o q. refuses_in s (e ∷ past) _ _ _ (one_in s (e ∷ past) past))
-reply_of s past e (act.Split m at) z h w f g = object_in s (e ∷ past) past e.domain.0 m _ (λ o q. refuses_in s (e ∷ past) _ _ _ (refuses_in s (e ∷ past) _ _ _ tt))
+reply_of s past e (act.Split m at) z h w f g =
+    object_in s (e ∷ past) past e.domain.0 m _ (λ o q. refuses_in s (e ∷ past) _ _ _ (refuses_by s (e ∷ past) _ _ _
+    (λ l. (numbered_in s (e ∷ past) past 2 1 (omega arith) l, numbered_in s (e ∷ past) past 2 2 (omega arith) l))))
 reply_of s past e (act.Revoke m) z h w f g = object_in s (e ∷ past) past e.domain.0 m _ (λ o q. one_in s (e ∷ past) past)
 reply_of s past e (act.Release m) z h w f g = refuses_in s (e ∷ past) _ _ _ tt
 reply_of s past e (act.Kill k) z h w f g = refuses_in s (e ∷ past) _ _ _ (refuses_in s (e ∷ past) _ _ _ (refuses_in s (e ∷ past) _ _ _ tt))
@@ -158,4 +175,4 @@ asked_is_well_made s past z h d t k st a i n q = next_is_well_made s past z h d 
 
 -- a state that stands for a domain is one of values
 pub standing_values : (s : System) (past : Past) → IsSound s → IsAdmittedPast s past → StandingHoldsValues s past
-standing_values s past z h d t st i n = subst (IsStateIn s past) (sym n.1) (advanced_in s past z n.0 (domain_state s t (own_entries past d)) (states_hold s past z h d t i))
+standing_values s past z h d t st i n = subst (IsStateIn s past) (sym n.1) (advanced_in s past z n.0 (domain_state s t (own_entries past d)) (states_hold s past z h d t i) (calls_known s t d past h))

@@ -13,8 +13,8 @@ use Rattle.jx_base.specs.declared.value.Word.{Word}
 use Rattle.jx_base.specs.declared.value.Word.TheVariants as word
 use Rattle.program_model.specs.BuiltIn.{string_class, builder_class}
 use Rattle.jx_base.specs.Histories.{Past}
-use Rattle.jx_model.specs.Portals.{interface_of}
-use Rattle.jx_model.specs.WellMade.{IsParcelIn}
+use Rattle.jx_model.specs.WellMade.{IsParcelIn, IsPortalIn}
+use Rattle.program_model.specs.Ranges.{IsId}
 use Rattle.std.specs.Option.{option_map}
 
 -- an int of sixteen bits without a sign
@@ -37,11 +37,14 @@ pub record IsHanded (s : System) (past : Past) (p : Parcel) : Type 0 where
   pub parcel : IsParcelIn s past p
   pub texts : AllByRecursion (HasTexts p.nodes) p.nodes
 
--- a number is of 32 bits, a portal names a service that was exported, and a parcel is one that a domain can have
+-- a number is of 32 bits, a portal is one of the past, and a parcel is one that a domain can have
 abbrev pub IsReplyIn : System → Past → Reply → Type 0
-IsReplyIn s past (reply.Service k c) = interface_of past k.0 ≡ Some c
+IsReplyIn s past (reply.Service k c) = IsPortalIn past k.0 c
 IsReplyIn s past (reply.Number n) = FitsSigned w32 n
 IsReplyIn s past (reply.Domain d g) = FitsSigned w32 (pos d.0)
+IsReplyIn s past (reply.Made m g) = IsId m.0
+IsReplyIn s past (reply.Object m) = IsId m.0
+IsReplyIn s past (reply.Pair a b) = IsId a.0 × IsId b.0
 IsReplyIn s past (reply.Job k m p) = IsHanded s past p
 IsReplyIn s past (reply.Value p) = IsHanded s past p
 IsReplyIn s past (reply.Thrown p) = IsHanded s past p
@@ -49,5 +52,5 @@ IsReplyIn s past _ = Unit {0}
 
 -- an export that made a service made it with its interface
 abbrev pub IsExportedIn : Past → Act → Reply → Type 0
-IsExportedIn past (act.Export iface k) (reply.Service service c) = interface_of past service.0 ≡ Some iface
+IsExportedIn past (act.Export iface k) (reply.Service service c) = IsPortalIn past service.0 iface
 IsExportedIn past _ _ = Unit {0}

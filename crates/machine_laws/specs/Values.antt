@@ -1,5 +1,5 @@
 -- What a state of a domain holds, against the past of its system.
-use Rattle.std.specs.Prelude.{pos, FitsSigned, ◌≡◌, ℕ, ◌<◌, ◌≤◌, length, Option, Some, None, IsSome, Contains}
+use Rattle.std.specs.Prelude.{pos, FitsSigned, ◌≡◌, ℕ, ◌<◌, ◌≤◌, length, Option, Some, None, IsSome, IfSome, Contains}
 use Rattle.std.specs.List.{AllByRecursion}
 use Rattle.std.specs.Int.{w32, w64}
 use Rattle.jx_base.specs.declared.frame.Frame.{Frame}
@@ -13,11 +13,11 @@ use Rattle.program_model.specs.Lookup.{method_at}
 use Rattle.program_model.specs.BuiltIn.{string_class, builder_class}
 use Rattle.jx_base.specs.Histories.{Past}
 use Rattle.jx_model.specs.Moments.{HasGrown}
-use Rattle.jx_model.specs.Portals.{interface_of}
 use Rattle.program_model.specs.Parcels.{HeapObject}
-use Rattle.jx_model.specs.WellMade.{IsClass}
+use Rattle.jx_model.specs.WellMade.{IsClass, IsPortalIn}
+use Rattle.program_model.specs.Ranges.{IsId}
 use Rattle.machine_model.specs.State.{Store, Stage, Returned, Threw, Thread, State, class_of_object, code_of, code_bytes, stack_limit}
-use Rattle.machine_model.specs.Conditions.{local_count}
+use Rattle.machine_model.specs.Conditions.{local_count, IsTextIfObject}
 
 -- the cells that a heap has at most
 abbrev pub cell_limit : ℕ
@@ -27,11 +27,12 @@ cell_limit = 131072
 abbrev pub IsObject : Store → ℕ → Type 0
 IsObject store r = IsSome (class_of_object store r)
 
--- a number is of its width, a portal names a service that was exported, with its interface, and a reference is an object of the store
+-- a number is of its width, a portal is one of the past, a memory object has a number of 32 bits, and a reference is an object of the store
 abbrev pub IsValueIn : Past → Store → Value → Type 0
 IsValueIn past store (value.Int n) = FitsSigned w32 n
 IsValueIn past store (value.Long n) = FitsSigned w64 n
-IsValueIn past store (value.Portal k c) = interface_of past k.0 ≡ Some c
+IsValueIn past store (value.Portal k c) = IsPortalIn past k.0 c
+IsValueIn past store (value.Mem m) = IsId m.0
 IsValueIn past store (value.Ref r) = IsObject store r
 IsValueIn past store _ = Unit {0}
 
@@ -45,11 +46,6 @@ abbrev pub IsUnitValue : Value → Type 0
 IsUnitValue (value.Int (pos n)) = n < 65536
 IsUnitValue _ = ⊥
 
--- a String, where it is an object
-abbrev pub IsTextIfObject : Store → Value → Type 0
-IsTextIfObject store (value.Ref r) = class_of_object store r ≡ Some string_class
-IsTextIfObject store _ = Unit {0}
-
 -- an object is of a class of the system, no larger than a heap, and of values; a String's are units, and what a StringBuilder refers to is a String
 pub record IsObjectIn (s : System) (past : Past) (store : Store) (o : HeapObject) : Type 0 where
   pub known : IsClass s o.class.0
@@ -61,7 +57,7 @@ pub record IsObjectIn (s : System) (past : Past) (store : Store) (o : HeapObject
 -- an export is of an object, and its service was exported with that interface
 pub record IsExportIn (past : Past) (store : Store) (x : Exported) : Type 0 where
   pub object : IsObject store x.object
-  pub known : interface_of past x.service.0 ≡ Some x.iface
+  pub known : IsPortalIn past x.service.0 x.iface
 
 -- a store: object 0 is there, to be thrown for want of room, and object 1, which main is passed
 pub record IsStoreIn (s : System) (past : Past) (store : Store) : Type 0 where
@@ -101,6 +97,14 @@ pub record IsThreadIn (s : System) (past : Past) (store : Store) (x : Thread) : 
 pub record IsStateIn (s : System) (past : Past) (st : State) : Type 0 where
   pub store : IsStoreIn s past st.store
   pub threads : AllByRecursion (IsThreadIn s past st.store) st.threads
+
+-- the call that a thread serves, if any, has a number of 32 bits
+abbrev pub ServesKnownCall : Thread → Type 0
+ServesKnownCall x = IfSome x.call (λ c. IsId c.0)
+
+-- so has the call of each thread
+abbrev pub ServeKnownCalls : State → Type 0
+ServeKnownCalls st = AllByRecursion ServesKnownCall st.threads
 
 -- the new store has the objects of the old one, of the same classes
 abbrev pub HasObjectsOf : Store → Store → Type 0

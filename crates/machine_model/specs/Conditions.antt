@@ -8,12 +8,12 @@ use Rattle.jx_base.specs.declared.program.Resolved.TheVariants as resolved
 use Rattle.jx_base.specs.declared.frame.Frame.{Frame}
 use Rattle.jx_base.specs.declared.value.Value.{Value}
 use Rattle.jx_base.specs.declared.value.Value.TheVariants as value
-use Rattle.program_model.specs.BuiltIn.{string_class}
+use Rattle.program_model.specs.BuiltIn.{string_class, builder_class}
 use Rattle.program_model.specs.Instructions.{index_operand}
 use Rattle.program_model.specs.Lookup.{class_at, class_count, method_at, constant_at}
 use Rattle.program_model.specs.Parcels.{HeapObject}
 use Rattle.machine_model.specs.NumericRows.{depth_of}
-use Rattle.machine_model.specs.State.{Store, Core, code_of, stack_limit, class_of_frame}
+use Rattle.machine_model.specs.State.{Store, Core, class_of_object, code_of, stack_limit, class_of_frame}
 use Rattle.std.specs.Option.{option_and_then, option_map, unwrap_or}
 
 -- ---- of a frame
@@ -71,6 +71,15 @@ IsUnit _ = ⊥
 abbrev pub HasUnits : HeapObject → Type 0
 HasUnits o = o.class.0 ≡ string_class → All IsUnit o.cells
 
+-- a String, where it is an object
+abbrev pub IsTextIfObject : Store → Value → Type 0
+IsTextIfObject store (value.Ref r) = class_of_object store r ≡ Some string_class
+IsTextIfObject store _ = Unit {0}
+
+-- the cell of a StringBuilder refers to a String, or to nothing
+abbrev pub RefersToText : Store → HeapObject → Type 0
+RefersToText store o = o.class.0 ≡ builder_class → All (IsTextIfObject store) o.cells
+
 -- the static field that a constant is
 unfoldable pub static_of : Resolved → Option ℕ
 static_of (resolved.Static c i) = Some i
@@ -90,6 +99,7 @@ pub record IsCoreOf (s : System) (core : Core) : Type 0 where
   pub interfaces : All (HasKnownInterface s) (core_values core)
   pub cells : All (HasCellsOfClass s) core.store.objects
   pub texts : All HasUnits core.store.objects
+  pub builders : All (RefersToText core.store) core.store.objects
 
 -- the instruction is the one at the core's running frame, and the static field that it names is there
 pub record IsInstrOf (s : System) (core : Core) (f : Frame) (callers : List Frame) (i : Instr) : Type 0 where
