@@ -7,5 +7,6 @@ pub mod OneThread
 pub mod CallSteps
 pub mod Serving
 pub mod RefusedThreads
+pub mod RefusedCarriage
 pub mod Reasons
 pub mod SmallNumbers

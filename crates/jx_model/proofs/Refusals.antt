@@ -19,13 +19,13 @@ use Rattle.jx_model.specs.Domains.{is_birth, makes_domain, birth_of, template_of
 use Rattle.jx_model.specs.Threads.{service_threads, new_threads_of, new_threads}
 use Rattle.jx_model.specs.Portals.{is_export, exported_interface, export_of, owner_of, interface_of, has_live_owner, received_parcel, received_service, gives_portal, holds_portal, bound_by_act, last_bound, bound_service}
 use Rattle.program_model.specs.ParcelParts.{parcel_portals}
-use Rattle.jx_model.specs.Calls.{Answer, is_call, asked_by, queued_as, call_entry, asked_of, caller_of, first_since, answered_by, answered_by_act, ends_server, ends_domain, server_of, answer_of, is_answer_to}
-use Rattle.jx_model.specs.MemoryObjects.{Part, is_allocation, makes_extent, new_parts, objects_of, objects_made, extents_made, is_valid, ends_one_of, ended_object, lineage_of}
+use Rattle.jx_model.specs.Calls.{Answer, is_call, calls_made, asked_by, queued_as, call_entry, asked_of, caller_of, first_since, answered_by, answered_by_act, ends_server, ends_domain, server_of, answer_of, is_answer_to}
+use Rattle.jx_model.specs.MemoryObjects.{Part, is_allocation, allocation_of, makes_extent, new_parts, objects_of, objects_made, extents_made, is_valid, ends_one_of, ended_object, lineage_of}
 use Rattle.jx_model.specs.Holding.{received_objects, objects_in, is_drop_of, keeps_after, keeps_object, holds_object}
 use Rattle.jx_model.specs.Bytes.{byte_at, byte_after}
 use Rattle.jx_model.specs.Replies.{reply_to}
 use Rattle.jx_model.specs.Legal.{IsNext}
-use Rattle.jx_model.specs.Growth.{HasSameDomains, HasSameServices, HasSameObjects, HasSameCalls, HasSameBytes}
+use Rattle.jx_model.specs.Growth.{HasSameDomains, HasSameServices, HasSameBytes}
 use Rattle.jx_base.proofs.BasicLaws.{ap2, ap3, pick_false, and_true, and_false}
 use Rattle.jx_base.proofs.NthEntries.{nth_same, count_same}
 use Rattle.std.specs.Option.{option_and_then, option_map}
@@ -167,9 +167,9 @@ module _ (s : System) (past : Past) (e : Entry) (r : Refusal) (next : IsNext s p
   unfolding end_reason reason_for
   reason d = ap (λ (o : Option (ℕ × Reason)). elim (reason_for o d) as (λ _. Option Reason) [ Some x ↦ Some x | None ↦ end_reason past d ]) ends
 
-  live : (d : ℕ) → is_live (e ∷ past) d ≡ is_live past d
+  pub live_same : (d : ℕ) → is_live (e ∷ past) d ≡ is_live past d
   unfolding is_live is_made
-  live d = ap2 (λ (n : ℕ) (o : Option Reason). nat_le 1 d && nat_le d n && is_none o) (count_same is_birth e past birth) (reason d)
+  live_same d = ap2 (λ (n : ℕ) (o : Option Reason). nat_le 1 d && nat_le d n && is_none o) (count_same is_birth e past birth) (reason d)
 
   threads : (d : ℕ) → service_threads (e ∷ past) d ≡ service_threads past d
   unfolding service_threads new_threads_of
@@ -188,7 +188,7 @@ module _ (s : System) (past : Past) (e : Entry) (r : Refusal) (next : IsNext s p
         creator = λ d. ap (λ (o : Option Entry). option_map (λ x. x.domain.0) o) (nth_same is_birth e past d birth);
         place = λ d. ap (λ (o : Option Entry). option_map (λ x. reply_granule x.reply) o) (nth_same is_birth e past d birth);
         reason = reason;
-        live = live;
+        live = live_same;
         threads = threads;
       }
 
@@ -204,7 +204,7 @@ module _ (s : System) (past : Past) (e : Entry) (r : Refusal) (next : IsNext s p
     where
       by : (o : Option ℕ) → passes (is_live (e ∷ past)) o ≡ passes (is_live past) o
       by None = refl
-      by (Some d) = live d
+      by (Some d) = live_same d
 
   bound_before : (units : List ℕ) → last_bound (e ∷ past) units ≡ last_bound past units
   unfolding last_bound
@@ -229,7 +229,7 @@ module _ (s : System) (past : Past) (e : Entry) (r : Refusal) (next : IsNext s p
   held : (d k : ℕ) → holds_portal (e ∷ past) d k ≡ holds_portal past d k
   unfolding holds_portal
   held d k =
-      ap2 (λ (x y : Bool). x && ((is_own d e && y) || list_any (λ f. is_own d f && gives_portal k f) past)) (live d) (no_portal k)
+      ap2 (λ (x y : Bool). x && ((is_own d e && y) || list_any (λ f. is_own d f && gives_portal k f) past)) (live_same d) (no_portal k)
       ∙ ap (λ (x : Bool). is_live past d && (x || list_any (λ f. is_own d f && gives_portal k f) past)) (and_false (is_own d e))
 
   pub same_services : HasSameServices past (e ∷ past)
@@ -245,15 +245,15 @@ module _ (s : System) (past : Past) (e : Entry) (r : Refusal) (next : IsNext s p
 
   -- ---- memory objects
 
-  objects : objects_of (e ∷ past) ≡ objects_of past
+  pub objects_same : objects_of (e ∷ past) ≡ objects_of past
   unfolding objects_of
-  objects =
+  objects_same =
       ap (λ (xs : List Part). objects_of past ++ xs) (ap (new_parts (objects_of past) (extents_made past + 1) e.act) refused ∙ no_parts (objects_of past) (extents_made past + 1) e.act r)
       ∙ append-nil _
 
   made : objects_made (e ∷ past) ≡ objects_made past
   unfolding objects_made
-  made = ap length objects
+  made = ap length objects_same
 
   pub same_bytes : HasSameBytes past (e ∷ past)
   unfolding byte_at
@@ -267,9 +267,9 @@ module _ (s : System) (past : Past) (e : Entry) (r : Refusal) (next : IsNext s p
       ap2 (λ (o : Option Answer) (x : Option (ℕ × Reason)). elim o as (λ _. Option Answer) [ Some a ↦ Some a | None ↦ if ends_domain x (server_of past c) then Some Answer.Ended else None ])
       (no_answer c e.act e.reply h) ends
 
-  answer : (c : ℕ) → is_answer_to c e.act ≡ false → answer_of (e ∷ past) c ≡ answer_of past c
+  pub answer_same : (c : ℕ) → is_answer_to c e.act ≡ false → answer_of (e ∷ past) c ≡ answer_of past c
   unfolding answer_of first_since
-  answer c h =
+  answer_same c h =
       ap (λ (x : Option Answer). elim (answer_of past c) as (λ _. Option Answer) [ Some a ↦ Some a | None ↦ elim (is_some (call_entry past c)) [ true ↦ x | false ↦ None ] ]) (answered c h)
       ∙ by (answer_of past c) (is_some (call_entry past c))
     where
@@ -278,21 +278,26 @@ module _ (s : System) (past : Past) (e : Entry) (r : Refusal) (next : IsNext s p
       by None true = refl
       by None false = refl
 
-  pub same_calls : HasSameCalls e.act past (e ∷ past)
-  unfolding asked_of caller_of call_entry
-  same_calls =
-      record {
-        made = count_same is_call e past call;
-        asked = λ c. ap (λ (o : Option Entry). option_and_then (λ x. asked_by x.act) o) (nth_same is_call e past c call);
-        caller = λ c. ap (λ (o : Option Entry). option_map (λ x. x.domain.0) o) (nth_same is_call e past c call);
-        answer = answer;
-      }
+  pub calls_same : calls_made (e ∷ past) ≡ calls_made past
+  calls_same = count_same is_call e past call
+
+  pub call_same : (c : ℕ) → call_entry (e ∷ past) c ≡ call_entry past c
+  unfolding call_entry
+  call_same c = nth_same is_call e past c call
+
+  pub asked_same : (c : ℕ) → asked_of (e ∷ past) c ≡ asked_of past c
+  unfolding asked_of
+  asked_same c = ap (λ (o : Option Entry). option_and_then (λ x. asked_by x.act) o) (call_same c)
+
+  pub caller_same : (c : ℕ) → caller_of (e ∷ past) c ≡ caller_of past c
+  unfolding caller_of
+  caller_same c = ap (λ (o : Option Entry). option_map (λ x. x.domain.0) o) (call_same c)
 
   -- ---- validity and holding
 
-  valid : (m : ℕ) → is_valid (e ∷ past) m ≡ is_valid past m
+  pub valid_same : (m : ℕ) → is_valid (e ∷ past) m ≡ is_valid past m
   unfolding is_valid ends_one_of
-  valid m =
+  valid_same m =
       ap2 (λ (x : Bool) (n : ℕ). if nat_le m (objects_made past) then is_valid past m && not (x && passes (contains_number (lineage_of (objects_of past) m)) (ended_object e.act)) else nat_le m n) done made
       ∙ by (nat_le m (objects_made past)) refl
     where
@@ -319,12 +324,13 @@ module _ (s : System) (past : Past) (e : Entry) (r : Refusal) (next : IsNext s p
   unfolding keeps_object
   keeps d m = ap3 (λ (x : Bool) (n : ℕ) (y : Bool). x && nat_le m n && y) (exists d) made (after d m (keeps_object past d m)) ∙ keeps_guarded past d m
 
-  pub same_objects : HasSameObjects past (e ∷ past)
+  pub holds_same : (d m : ℕ) → holds_object (e ∷ past) d m ≡ holds_object past d m
   unfolding holds_object
-  same_objects =
-      record {
-        made = objects;
-        extents = count_same is_allocation e past allocation;
-        valid = valid;
-        held = λ d m. ap2 (λ (x y : Bool). x && y) (live d) (keeps d m);
-      }
+  holds_same d m = ap2 (λ (x y : Bool). x && y) (live_same d) (keeps d m)
+
+  pub allocation_same : (x : ℕ) → allocation_of (e ∷ past) x ≡ allocation_of past x
+  unfolding allocation_of
+  allocation_same x = nth_same is_allocation e past x allocation
+
+  pub extents_same : extents_made (e ∷ past) ≡ extents_made past
+  extents_same = count_same is_allocation e past allocation

@@ -22,24 +22,23 @@ use Rattle.jx_model.specs.Calls.{Asked, Answer, asked_of, answer_of, answered_by
 use Rattle.jx_model.specs.Permits.{acting_thread, is_halt, zero_may, may_perform, is_serving, choice_thread}
 use Rattle.jx_model.specs.Replies.{reply_to, job_of, or_done, answer_reply}
 use Rattle.jx_model.specs.Legal.{IsNext, IsAdmittedPast}
-use Rattle.jx_model.specs.Growth.{RefusalsChangeNothing, IsIdle, IsAnsweredWith, answers_call}
+use Rattle.jx_model.specs.Growth.{IsIdle, IsAnsweredWith, answers_call}
 use Rattle.jx_base.proofs.BasicLaws.{ap2, ap3, and_true, both, eq_of, same_number}
-use Rattle.jx_model.proofs.Growing.{moment, before_admitted}
 use Rattle.jx_model.proofs.Acting.{acting_cases, domain_cases, running_runs, running_live}
 use Rattle.jx_model.proofs.OneThread.{state_with, other_thread}
 use Rattle.jx_model.proofs.CallSteps.{answer_made}
 use Rattle.jx_model.proofs.Serving.{in_domain, returns_it, throws_it, served, unanswered, last_serves, running_serves, after_return, after_throw, not_ended_yet}
-use Rattle.jx_model.proofs.Refusals.{same_domains, same_services, same_objects, same_calls, same_bytes}
+use Rattle.jx_model.proofs.Refusals.{same_domains}
 use Rattle.std.specs.Option.{option_and_then, option_map}
 
 -- ---- what a refused act is none of
 
-no_job : {A : Type 0} (r : Refusal) (o : Option Asked) → reply.Refused r ≡ job_of o → A
+pub no_job : {A : Type 0} (r : Refusal) (o : Option Asked) → reply.Refused r ≡ job_of o → A
 unfolding job_of
 no_job r None h = cc
 no_job r (Some a) h = cc
 
-no_result : {A : Type 0} (r : Refusal) (o : Option Answer) → reply.Refused r ≡ or_done (option_and_then answer_reply o) → A
+pub no_result : {A : Type 0} (r : Refusal) (o : Option Answer) → reply.Refused r ≡ or_done (option_and_then answer_reply o) → A
 unfolding or_done answer_reply
 no_result r None h = cc
 no_result r (Some (Answer.Value p)) h = cc
@@ -125,7 +124,7 @@ unfolding is_halt zero_may may_perform choice_thread
 throws_serves s past d t c p h =
     elim (domain_cases past d t (act.Throw c p) (in_domain s past d t (act.Throw c p) refl refl h).1) [ inl y ↦ y.1 | inr y ↦ cc y.2 ]
 
-throws_live : (s : System) (past : Past) (d t : ℕ) (c : CallId) (p : Parcel) → acting_thread s past d (act.Throw c p) ≡ Some t → is_live past d ≡ true
+pub throws_live : (s : System) (past : Past) (d t : ℕ) (c : CallId) (p : Parcel) → acting_thread s past d (act.Throw c p) ≡ Some t → is_live past d ≡ true
 unfolding is_halt zero_may may_perform choice_thread
 throws_live s past d t c p h =
     elim (domain_cases past d t (act.Throw c p) (in_domain s past d t (act.Throw c p) refl refl h).1) [ inl y ↦ running_live past d t y.0 | inr y ↦ y.1 ]
@@ -182,7 +181,7 @@ module _ (s : System) (past : Past) (e : Entry) (r : Refusal) (next : IsNext s p
       by (Some k) h =
           ap Some (stays (serving_state k (served_call past d (suc t))) ∙ sym (at_base (serving_state k (served_call past d (suc t))) (last_of_thread past d (suc t)) h))
 
-  same_state : (d t : ℕ) → 1 ≤ d → (answers_call e.act && is_of_thread d t e) ≡ false → thread_state (e ∷ past) d t ≡ thread_state past d t
+  pub same_state : (d t : ℕ) → 1 ≤ d → (answers_call e.act && is_of_thread d t e) ≡ false → thread_state (e ∷ past) d t ≡ thread_state past d t
   same_state d t l other = by (is_of_thread d t e) refl
     where
       silent : is_of_thread d t e ≡ true → answers_call e.act ≡ false
@@ -220,7 +219,7 @@ module _ (s : System) (past : Past) (e : Entry) (r : Refusal) (next : IsNext s p
   unfolding is_of_thread is_own
   own_thread = ap2 (λ (x y : Bool). x && y) (same_number e.domain.0) (same_number e.thread.0)
 
-  idles : (a : Act) → e.act ≡ a → answers_call a ≡ true → IsIdle (e ∷ past) e.domain.0 e.thread.0
+  pub idles : (a : Act) → e.act ≡ a → answers_call a ≡ true → IsIdle (e ∷ past) e.domain.0 e.thread.0
   unfolding answers_call
   idles (act.Return c p) q h =
       idle_state e.domain.0 e.thread.0 c (returns_serves s past e.domain.0 e.thread.0 c p (ap (acting_thread s past e.domain.0) (sym q) ∙ next.thread)) own_thread
@@ -241,7 +240,7 @@ module _ (s : System) (past : Past) (e : Entry) (r : Refusal) (next : IsNext s p
       ∙ ap (λ (o : Option Answer). elim o as (λ _. Option Answer) [ Some x ↦ Some x | None ↦ answered_by past e c.0 ]) u
       ∙ ap (λ (o : Option Answer). elim o as (λ _. Option Answer) [ Some x ↦ Some x | None ↦ if ends_server past c.0 e then Some Answer.Ended else None ]) a
 
-  answers : (a : Act) → e.act ≡ a → IsAdmittedPast s past → IsAnsweredWith r a (e ∷ past)
+  pub answers : (a : Act) → e.act ≡ a → IsAdmittedPast s past → IsAnsweredWith r a (e ∷ past)
   answers (act.Return c p) q h =
       let n = ap (acting_thread s past e.domain.0) (sym q) ∙ next.thread in
       let v = returns_it s past e.domain.0 e.thread.0 c p n in
@@ -250,18 +249,3 @@ module _ (s : System) (past : Past) (e : Entry) (r : Refusal) (next : IsNext s p
       let n = ap (acting_thread s past e.domain.0) (sym q) ∙ next.thread in
       answer_is c h (throws_it s past e.domain.0 e.thread.0 c p n) (throws_live s past e.domain.0 e.thread.0 c p n) (ap2 (answered_by_act c.0) q refused ∙ throw_answers c p r)
   answers _ q h = tt
-
--- each refused entry changes nothing but the answer of its call and its thread
-pub refusals_nothing : (s : System) (whole : Past) → IsAdmittedPast s whole → RefusalsChangeNothing s whole
-refusals_nothing s whole h e past r m q =
-    let n = moment s whole e past h m in
-    record {
-      domains = same_domains s past e r n q;
-      services = same_services s past e r n q;
-      objects = same_objects s past e r n q;
-      calls = same_calls s past e r n q;
-      threads = same_state s past e r n q;
-      answered = answers s past e r n q e.act refl (before_admitted s whole e past h m);
-      idle = idles s past e r n q e.act refl;
-      bytes = same_bytes s past e r n q;
-    }

@@ -15,9 +15,10 @@ use Rattle.jx_model.specs.Moments.{IsMoment}
 use Rattle.jx_model.specs.Domains.{is_live, domains_made, template_of, creator_of, heap_place_of, end_reason}
 use Rattle.jx_model.specs.Threads.{thread_state, is_running_state, service_threads, is_of_thread}
 use Rattle.jx_model.specs.Portals.{services_made, owner_of, interface_of, holds_portal, bound_service}
-use Rattle.jx_model.specs.Calls.{calls_made, asked_of, caller_of, answer_of, is_answer_to, refused_answer}
+use Rattle.jx_model.specs.Calls.{calls_made, asked_of, caller_of, answer_of, call_state, is_answer_to, refused_answer}
 use Rattle.jx_model.specs.MemoryObjects.{objects_of, objects_made, is_valid, extents_made}
-use Rattle.jx_model.specs.Holding.{holds_object}
+use Rattle.jx_model.specs.Holding.{holds_object, carried, riding_count, is_extent_in_use}
+use Rattle.jx_model.specs.Granules.{used_runs}
 use Rattle.jx_model.specs.Bytes.{byte_at}
 
 -- ---- one running thread
@@ -88,19 +89,27 @@ pub record HasSameServices (past new : Past) : Type 0 where
   pub name : (units : List ℕ) → bound_service new units ≡ bound_service past units
   pub held : (d k : ℕ) → holds_portal new d k ≡ holds_portal past d k
 
--- the same memory objects, and the same domains hold them
+-- the same memory objects, which the same domains hold and as many calls carry
 pub record HasSameObjects (past new : Past) : Type 0 where
   pub made : objects_of new ≡ objects_of past
   pub extents : extents_made new ≡ extents_made past
   pub valid : (m : ℕ) → is_valid new m ≡ is_valid past m
   pub held : (d m : ℕ) → holds_object new d m ≡ holds_object past d m
+  pub riding : (m : ℕ) → riding_count new m ≡ riding_count past m
+  pub in_use : (x : ℕ) → is_extent_in_use new x ≡ is_extent_in_use past x
 
--- the same calls, with the same answers but where the act answers one
+-- the same calls, which carry the same objects, with the same answers and states but where the act answers one
 pub record HasSameCalls (a : Act) (past new : Past) : Type 0 where
   pub made : calls_made new ≡ calls_made past
   pub asked : (c : ℕ) → asked_of new c ≡ asked_of past c
   pub caller : (c : ℕ) → caller_of new c ≡ caller_of past c
   pub answer : (c : ℕ) → is_answer_to c a ≡ false → answer_of new c ≡ answer_of past c
+  pub state : (c : ℕ) → is_answer_to c a ≡ false → call_state new c ≡ call_state past c
+  pub carried : (c : ℕ) → carried new c ≡ carried past c
+
+-- the same granules are in use, by the same heaps and extents
+abbrev pub HasSameGranules : System → Past → Past → Type 0
+HasSameGranules s past new = used_runs s new ≡ used_runs s past
 
 -- the same bytes
 abbrev pub HasSameBytes : Past → Past → Type 0
@@ -140,6 +149,7 @@ pub record ChangesNothingElse (s : System) (past : Past) (e : Entry) (r : Refusa
   pub threads : HasSameThreads e past
   pub answered : IsAnsweredWith r e.act (e ∷ past)
   pub idle : IdlesThread e past
+  pub granules : HasSameGranules s past (e ∷ past)
   pub bytes : HasSameBytes past (e ∷ past)
 
 -- each refused entry changes nothing but the answer of its call and its thread

@@ -1,5 +1,5 @@
 -- Which acts are well made: what the type of an act can't say.
-use Rattle.std.specs.Prelude.{FitsSigned, ◌^◌, ◌≡◌, ℕ, ◌<◌, ◌≤◌, ℤ, pos, negsuc, Bool, true, false, ◌&&◌, ◌||◌, ◌⊎◌, List, length, Option, Some, None, is_some, IsSome, IfSome, IsTrue, ◌==◌, nat_lt, nat_le}
+use Rattle.std.specs.Prelude.{FitsSigned, ◌≡◌, ℕ, ◌<◌, ◌≤◌, Bool, true, false, ◌&&◌, ◌⊎◌, length, Option, Some, None, is_some, IsSome, IfSome, IsTrue, nat_lt, nat_le}
 use Rattle.std.specs.Bool.{Decides}
 use Rattle.std.specs.List.{AllByRecursion, list_all}
 use Rattle.std.specs.Int.{w32, w64}
@@ -13,7 +13,7 @@ use Rattle.jx_base.specs.declared.value.Word.{Word}
 use Rattle.jx_base.specs.declared.value.Word.TheVariants as word
 use Rattle.jx_base.specs.declared.program.System.{System}
 use Rattle.jx_base.specs.Basics.{is_number}
-use Rattle.program_model.specs.Limits.{text_limit, name_limit, thread_limit, node_limit, parcel_limit}
+use Rattle.program_model.specs.Limits.{thread_limit, node_limit, parcel_limit}
 use Rattle.program_model.specs.ParcelParts.{parcel_cells, parcel_words}
 use Rattle.jx_base.specs.Histories.{Past}
 use Rattle.jx_model.specs.Portals.{interface_of}

@@ -178,10 +178,11 @@ selected_method s c selector = first_some (instance_method s selector) (chain_of
 unfoldable pub has_own_method : Selector → Class → Bool
 has_own_method selector k = list_any (λ m. same_selector selector m.selector) k.methods
 
--- whether the selector is a method of the interface or of one above it
+-- whether the selector is a method that the class declares, or that an interface above it does
 unfoldable pub has_method : System → ℕ → ℕ → Bool
 has_method s iface selector =
-    list_any (λ c. passes (λ x. passes (has_own_method x) (class_at s c)) (selector_at s selector)) (filter (is_interface s) (supers_of s iface))
+    list_any (λ c. passes (λ x. passes (has_own_method x) (class_at s c)) (selector_at s selector))
+    (filter (λ c. (c == iface) || is_interface s c) (supers_of s iface))
 
 -- ---- templates
 

@@ -490,6 +490,28 @@ method_of_object_does_not : has_method portal_methods 28 1 ≡ false
 unfolding opened_model
 method_of_object_does_not = refl
 
+-- class C with its own method own, below interface A
+abbrev pub plain_methods : System
+plain_methods =
+    linked_system (plan_of (codes "A" ∷ codes "C" ∷ []) (0 ∷ 1 ∷ [])) (
+    record (file_of (codes "A") object []) { flags = 0x0601; methods = member 0x0401 (codes "low") (codes "()V") ∷ [] }
+    ∷ record (file_of (codes "C") object (class_constants 5 (codes "A"))) { interfaces = 6 ∷ []; methods = member 0x0401 (codes "own") (codes "()V") ∷ [] }
+    ∷ []
+    )
+
+-- where the class is no interface, its own methods count, those of interfaces above it, and none of its super
+own_method_of_class_counts : has_method plain_methods 28 37 ≡ true
+unfolding opened_model
+own_method_of_class_counts = refl
+
+interface_method_of_class_counts : has_method plain_methods 28 36 ≡ true
+unfolding opened_model
+interface_method_of_class_counts = refl
+
+method_of_super_does_not : has_method plain_methods 28 1 ≡ false
+unfolding opened_model
+method_of_super_does_not = refl
+
 listed_class : lists_class family 0 1 ≡ true
 unfolding opened_model
 listed_class = refl

@@ -1,4 +1,4 @@
-use Rattle.jx_model.proofs.RefusedThreads.{refusals_nothing}
+use Rattle.jx_model.proofs.RefusedCarriage.{refusals_nothing}
 use Rattle.jx_model.proofs.laws.refusals_change_nothing.Goals as goal
 
 pub returns : goal.returns
