@@ -10,3 +10,4 @@ pub mod RefusedThreads
 pub mod RefusedCarriage
 pub mod Reasons
 pub mod SmallNumbers
+pub mod OneHistory

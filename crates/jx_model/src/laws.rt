@@ -1,9 +1,11 @@
 //! Laws of histories. Each function answers nothing and promises the law.
 
+ghost use Rattle.std.specs.Prelude.{◌≡◌};
 ghost use Rattle.jx_model.specs.Growth.{GivesNumbersOnce, RefusalsChangeNothing, RunsOneThread};
 ghost use Rattle.jx_base.specs.Histories.{past_of};
 ghost use Rattle.jx_model.specs.Legal.{IsAdmitted};
 ghost use Rattle.jx_model.specs.Moments.{BeginsWith};
+ghost use Rattle.jx_model.specs.SingleWorker.{IsSingleWorkerHistory, single_worker_history};
 ghost use Rattle.jx_model.specs.WellMade.{IsWellMade, IsWellMadeTest};
 ghost use Rattle.jx_model.specs.WhyNot.{CanBeAsked, IsTold};
 
@@ -50,4 +52,12 @@ pub fn reasons_are_told(system: &System, history: &History, domain: DomainId, ac
 /// The test of what is well made says what is.
 pub fn well_made_is_tested(system: &System, history: &History, act: &Act)
     ensures { IsWellMadeTest system.now (past_of history.now) act.now }
+{}
+
+/// One worker of a system has at most one history, which is the computed one.
+pub fn one_worker_has_one_history(system: &System, history: &History, other: &History)
+    requires history { IsSingleWorkerHistory system.now history.now }
+    requires other { IsSingleWorkerHistory system.now other.now }
+    ensures same { history.now ≡ other.now }
+    ensures computed { history.now.entries ≡ single_worker_history system.now }
 {}
