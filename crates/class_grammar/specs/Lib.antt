@@ -7,3 +7,4 @@ pub mod Constants
 pub mod Members
 pub mod ClassGrammar
 pub mod CodeGrammar
+pub mod ReadFiles

@@ -5,6 +5,7 @@ use Rattle.jx_base.specs.ClassNames.{is_class_name}
 use Rattle.program_model.specs.Plans.{IsTemplateInRange, IsPlanInRange}
 use Rattle.link_model.specs.LinkFaults.{IsLinked}
 use Rattle.opened_models.specs.Opened.{opened_model}
+use Rattle.first_class.proofs.HelloRead.{hello_is_read}
 use Rattle.first_class.proofs.Hello.{hello_plan, hello_file, hello_system, hello_links, hello_is_good}
 
 -- ---- all elements of short lists
@@ -49,7 +50,7 @@ plan_in_range =
 pub is_linked : IsLinked (hello_plan 1000000) (hello_file ∷ []) (hello_system 1000000)
 is_linked =
     record {
-      has_files = record { range = plan_in_range; count = refl };
+      has_files = record { range = plan_in_range; count = refl; read = (hello_is_read, tt) };
       no_fault = hello_is_good;
       system = sym hello_links;
     }

@@ -1,5 +1,6 @@
 pub mod TestSystems
 pub mod Hello
+pub mod HelloRead
 pub mod HelloLinked
 pub mod FirstClass
 pub mod FirstComplete

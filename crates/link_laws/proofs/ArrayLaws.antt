@@ -26,7 +26,7 @@ use Rattle.program_model.specs.Lookup.{class_at, class_named, constant_at, metho
 use Rattle.program_model.specs.Types.{element_type}
 use Rattle.jx_base.proofs.BasicLaws.{both, eq_of}
 use Rattle.link_laws.specs.Arrays.{IsTypeIn, IsElementOf, HasArraysOf, ArraysHold}
-use Rattle.link_laws.specs.Linked.{IsLinkedFrom}
+
 use Rattle.link_laws.proofs.Classes.{name_of, all_names, array_begins, is_own, is_plain, built_in_own, own_plain, others_plain, plan_others}
 use Rattle.link_laws.proofs.Elements.{array_elements_in, named_there}
 use Rattle.link_laws.proofs.Fitting.{contained, array_itself, file_usable, file_uses, file_arrays, code_arrays, instr_arrays, use_told}
@@ -78,10 +78,10 @@ plain_dimensions : (name : List ℕ) → is_plain name ≡ true → dimensions_o
 unfolding is_plain
 plain_dimensions name h = eq_of (dimensions_of name) 0 (both (list_all (λ u. nat_lt u 65536) name) (dimensions_of name == 0) h).1
 
-module _ (plan : Plan) (files : List ClassFile) (s : System) (from : IsLinkedFrom plan files s) where
+module _ (plan : Plan) (files : List ClassFile) (s : System) (from : IsLinked plan files s) where
   -- that the system is linked
   abbrev linked : IsLinked plan files s
-  linked = from.linked
+  linked = from
 
   -- ---- elements
 

@@ -27,7 +27,7 @@ use Rattle.program_model.specs.Types.{innermost_type, is_number_type, is_referen
 use Rattle.jx_base.specs.Basics.{contains_number}
 use Rattle.jx_base.proofs.BasicLaws.{both, eq_of}
 use Rattle.link_laws.specs.Arrays.{IsTypeIn}
-use Rattle.link_laws.specs.Linked.{IsLinkedFrom}
+
 use Rattle.link_laws.proofs.Arrays.{named_by, IsMentioned, ByInstr, ByCatch, array_of_name, of_element}
 use Rattle.link_laws.proofs.Classes.{name_of, all_names, system_names, array_begins}
 use Rattle.link_laws.proofs.Fitting.{array_itself, file_usable, file_uses, file_arrays, code_arrays}
@@ -281,10 +281,10 @@ module _ (plan : Plan) (files : List ClassFile) (s : System) (linked : IsLinked 
               of false g k = k
       by false e k = plain_type t (u ∷ units) k
 
-module _ (plan : Plan) (files : List ClassFile) (s : System) (from : IsLinkedFrom plan files s) where
+module _ (plan : Plan) (files : List ClassFile) (s : System) (from : IsLinked plan files s) where
   -- that the system is linked
   abbrev linked : IsLinked plan files s
-  linked = from.linked
+  linked = from
 
   module _ (t : Template) (p : ℕ) (n : List ℕ) (f : ClassFile) (listed : IsListed plan files t p n f) where
     -- the class at an index that code uses is known

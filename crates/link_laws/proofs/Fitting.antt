@@ -26,7 +26,7 @@ use Rattle.link_model.specs.Linking.{Source, outline, meanings_of, linked_method
 use Rattle.program_model.specs.Lookup.{constant_at, method_at, type_of_name}
 use Rattle.jx_base.specs.Basics.{contains_number}
 use Rattle.jx_base.proofs.BasicLaws.{eq_of, same_number}
-use Rattle.link_laws.specs.Linked.{IsLinkedFrom}
+use Rattle.link_model.specs.LinkFaults.{IsLinked}
 use Rattle.link_laws.specs.Meanings.{ConstantsFit, MeansFitting, FitsUse}
 use Rattle.jx_base.specs.declared.program.Class.{Class}
 use Rattle.jx_base.specs.declared.row.Invocation.TheVariants as invocation
@@ -149,12 +149,12 @@ uses_are : (f : ClassFile) → uses_of f ≡ flat_map uses_of_member f.methods
 unfolding uses_of
 uses_are f = refl
 
-module _ (plan : Plan) (files : List ClassFile) (s : System) (from : IsLinkedFrom plan files s) where
+module _ (plan : Plan) (files : List ClassFile) (s : System) (from : IsLinked plan files s) where
   -- a use of a listed file is usable
   pub file_usable : (t : Template) (p : ℕ) (n : List ℕ) (f : ClassFile) (u : Used) → IsListed plan files t p n f → Among (uses_of f) u → IsUsable (outline plan files) plan t f u.use_of (constant_in f u.index)
   unfolding uses_fault
   file_usable t p n f u l all =
-      usable (outline plan files) plan t n f u (none_given (use_fault (outline plan files) plan t n f) (flat_map uses_of_member f.methods) u (listed_uses plan files s from.linked t p n f l)
+      usable (outline plan files) plan t n f u (none_given (use_fault (outline plan files) plan t n f) (flat_map uses_of_member f.methods) u (listed_uses plan files s from t p n f l)
       (subst (λ (us : List Used). Among us u) (uses_are f) all))
 
   -- what a use by the code of a file's method means
@@ -163,14 +163,14 @@ module _ (plan : Plan) (files : List ClassFile) (s : System) (from : IsLinkedFro
       → (r : Resolved) × (meaning_of (outline plan files) f (constant_in f u.index) ≡ Some r) × (constant_at s (built_in_count + p) u.index ≡ Some r) × FitsUse s u.use_of r
   unfolding constant_at class_at_index meanings_of
   use_told p f m c u e h g k arrays =
-      let l = file_listed plan files s from.linked p f e in
+      let l = file_listed plan files s from p f e in
       let all : Among (uses_of f) u = file_uses f m c u h g k in
       let usable = file_usable l.0 p l.1 f u l.2 all in
-      let means = use_means plan files s from.linked (are_files files from.read) l.0 f u.use_of (constant_in f u.index) usable
+      let means = use_means plan files s from (are_files files from.has_files.read) l.0 f u.use_of (constant_in f u.index) usable
       (λ name q d. file_arrays plan files l.0 p l.1 f name l.2 (code_arrays f m c name h g (arrays name (ap (λ (o : Option (List ℕ)). elim o as (λ _. List ℕ) [ None ↦ [] | Some n ↦ n ]) q) d))) in (
         means.0,
         means.1,
-        (ap (λ o. option_and_then (λ (x : Class). slice_get x.constants u.index) o) (file_linked plan files s from.linked p f e)
+        (ap (λ o. option_and_then (λ (x : Class). slice_get x.constants u.index) o) (file_linked plan files s from p f e)
             ∙ at_meaning (outline plan files) f (map (λ u. u.index) (uses_of f)) 0 f.constants u.index (constant_in f u.index) means.0
             (used_there f u.index u.use_of usable.tag) (ap (contains_number (map (λ u. u.index) (uses_of f))) (omega arith) ∙ index_used f u all) means.1),
         means.2,
@@ -204,7 +204,7 @@ module _ (plan : Plan) (files : List ClassFile) (s : System) (from : IsLinkedFro
   instruction_fits : (m : ℕ) (x : Method) (i : Instr) (u : Used) → method_at s m ≡ Some x → Among x.instrs i → used_by i ≡ Some u → MeansFitting s x.class.0 u
   unfolding linked_method uses_of_code
   instruction_fits m x i u e h q =
-      let y = method_source plan files s from.linked m x e in
+      let y = method_source plan files s from m x e in
       subst (λ (z : Method). MeansFitting s z.class.0 u) (sym y.2) (by y.0 (is_source files y.0 y.1) y.0.code refl (subst (λ (z : Method). Among z.instrs i) y.2 h))
     where
       by : (y : Source) → IsSource files y → (o : Option Code) → y.code ≡ o → Among (elim y.code as (λ _. List Instr) [ None ↦ [] | Some c ↦ instructions_of c.code ]) i → MeansFitting s y.class u
@@ -239,7 +239,7 @@ module _ (plan : Plan) (files : List ClassFile) (s : System) (from : IsLinkedFro
   catch_fits : (m : ℕ) (x : Method) (c : Code) (u : Used) → method_at s m ≡ Some x → x.code ≡ Some c → Among (catch_uses c) u → MeansFitting s x.class.0 u
   unfolding linked_method uses_of_code
   catch_fits m x c u e h q =
-      let y = method_source plan files s from.linked m x e in
+      let y = method_source plan files s from m x e in
       subst (λ (z : Method). MeansFitting s z.class.0 u) (sym y.2) (by y.0 (is_source files y.0 y.1) (ap (λ (z : Method). z.code) (sym y.2) ∙ h))
     where
       by : (y : Source) → IsSource files y → y.code ≡ Some c → MeansFitting s y.class u

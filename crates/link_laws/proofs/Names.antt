@@ -15,7 +15,7 @@ use Rattle.link_model.specs.LinkFaults.{IsLinked}
 use Rattle.link_model.specs.Linking.{linked_system, outline}
 use Rattle.program_model.specs.Plans.{is_template_name, has_name_length}
 use Rattle.jx_base.proofs.BasicLaws.{both}
-use Rattle.link_laws.specs.Linked.{IsLinkedFrom, IsReadFile}
+use Rattle.class_grammar.specs.ReadFiles.{IsReadFile}
 use Rattle.link_laws.proofs.Classes.{name_of, system_names, names_once, names_units}
 use Rattle.link_laws.proofs.Files.{IsFile, is_file}
 use Rattle.link_laws.proofs.Lists.{Among, IsOnce, of_each, of_all, one_place, at_map, among_at, among_map, below_length, texts_once}
@@ -23,7 +23,7 @@ use Rattle.link_laws.proofs.Sources.{selectors_of, selectors_once, selector_unit
 
 -- files that were read are files
 pub are_files : (files : List ClassFile) → AllByRecursion IsReadFile files → AllByRecursion IsFile files
-are_files files read = of_all IsFile files (λ f h. let r = of_each IsReadFile files f read h in is_file r.file.0 f r.file.1)
+are_files files read = of_all IsFile files (λ f h. let r = of_each IsReadFile files f read h in is_file r.bytes f r.file)
 
 -- items whose names stand once have one place each
 apart : {A : Type 0} (name : A → List ℕ) (xs : List A) → IsOnce (map name xs) → (i j : ℕ) (x y : A) → slice_get xs i ≡ Some x → slice_get xs j ≡ Some y → name x ≡ name y → i ≡ j
@@ -41,10 +41,10 @@ template_units name h = small name (both (has_name_length name) (list_all (λ u.
     small [] e = tt
     small (u ∷ units) e = let k = both (nat_le 0x21 u && nat_le u 0x7e) (list_all (λ u. nat_le 0x21 u && nat_le u 0x7e) units) e in (one u k.0, small units k.1)
 
-module _ (plan : Plan) (files : List ClassFile) (s : System) (from : IsLinkedFrom plan files s) where
+module _ (plan : Plan) (files : List ClassFile) (s : System) (from : IsLinked plan files s) where
   -- that the system is linked
   abbrev linked : IsLinked plan files s
-  linked = from.linked
+  linked = from
 
   -- the plan is that of the system
   pub same_plan : s.plan ≡ plan
@@ -65,9 +65,9 @@ module _ (plan : Plan) (files : List ClassFile) (s : System) (from : IsLinkedFro
   -- names differ
   pub distinct_names : HasDistinctNames s
   distinct_names = record {
-    class_units = of_all (λ (k : Class). AreUnits k.name) s.program.classes (λ k h. names_units plan files s linked (are_files files from.read) k.name
+    class_units = of_all (λ (k : Class). AreUnits k.name) s.program.classes (λ k h. names_units plan files s linked (are_files files from.has_files.read) k.name
         (subst (λ xs. Among xs k.name) (system_names plan files s linked) (among_map name_of s.program.classes k h)));
-    selector_units = of_all (λ (y : Selector). AreUnits y.name × AreUnits y.descriptor) s.program.selectors (λ y h. selector_units files (are_files files from.read) y
+    selector_units = of_all (λ (y : Selector). AreUnits y.name × AreUnits y.descriptor) s.program.selectors (λ y h. selector_units files (are_files files from.has_files.read) y
         (subst (λ xs. Among xs y) same_selectors h));
     template_units = of_all (λ (t : Template). AreUnits t.name) s.plan.templates (λ t h. template_units t.name (template_named t (subst (λ (x : Plan). Among x.templates t) same_plan h)));
     classes = apart name_of s.program.classes (subst IsOnce (sym (system_names plan files s linked)) (names_once plan files s linked));

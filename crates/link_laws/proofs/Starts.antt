@@ -22,7 +22,7 @@ use Rattle.machine_model.specs.State.{code_of}
 use Rattle.jx_base.specs.Basics.{passes}
 use Rattle.machine_model.specs.MachineThreads.{is_initializer_selector}
 use Rattle.jx_base.proofs.BasicLaws.{both, passed, eq_of, same_number}
-use Rattle.link_laws.specs.Linked.{IsLinkedFrom}
+use Rattle.link_model.specs.LinkFaults.{IsLinked}
 use Rattle.link_laws.specs.Methods.{StartsHold}
 use Rattle.link_laws.proofs.Fitting.{contained}
 use Rattle.link_laws.proofs.Hierarchy.{place_small, main_listed}
@@ -152,7 +152,7 @@ all_three true true c x y z = z
 all_three true false c x y z = absurd cc
 all_three false b c x y z = absurd cc
 
-module _ (plan : Plan) (files : List ClassFile) (s : System) (from : IsLinkedFrom plan files s) where
+module _ (plan : Plan) (files : List ClassFile) (s : System) (from : IsLinked plan files s) where
   -- a static method that a start runs has code
   static_code : (test : Selector → Bool) (c m : ℕ) → Among (static_methods s test c) m → IsSome (code_of s m)
   unfolding static_methods is_static_method_of code_of
@@ -174,10 +174,10 @@ module _ (plan : Plan) (files : List ClassFile) (s : System) (from : IsLinkedFro
   main_there : (t : Template) → Among plan.templates t → (f : ClassFile) × (m : Member) × (slice_get files t.main ≡ Some f) × Among f.methods m × IsMain m
   unfolding main_fault listing_at listed_name
   main_there t h =
-      let small = place_small plan files s from.linked t t.main h (main_listed plan files s from.linked t h) in
+      let small = place_small plan files s from t t.main h (main_listed plan files s from t h) in
       let name = at_below plan.classes t.main small in
-      let f = at_below files t.main (omega (arith, small, from.linked.has_files.count)) in
-      let m = any_among is_main f.0.methods (by (slice_get plan.classes t.main) (slice_get files t.main) name.0 f.0 name.1 f.1 (listed_main plan files s from.linked t h)) in
+      let f = at_below files t.main (omega (arith, small, from.has_files.count)) in
+      let m = any_among is_main f.0.methods (by (slice_get plan.classes t.main) (slice_get files t.main) name.0 f.0 name.1 f.1 (listed_main plan files s from t h)) in
       (f.0, m.0, f.1, m.1, main_is m.0 m.2)
     where
       by : (a : Option (List ℕ)) (b : Option ClassFile) (n : List ℕ) (f : ClassFile) → a ≡ Some n → b ≡ Some f
@@ -233,5 +233,5 @@ module _ (plan : Plan) (files : List ClassFile) (s : System) (from : IsLinkedFro
   pub starts_hold : StartsHold s
   unfolding linked_system outline
   starts_hold t h =
-      let there : Among plan.templates t = subst (λ (x : Plan). Among x.templates t) (ap (λ (x : System). x.plan) from.linked.system) (contained s.plan.templates t h) in
+      let there : Among plan.templates t = subst (λ (x : Plan). Among x.templates t) (ap (λ (x : System). x.plan) from.system) (contained s.plan.templates t h) in
       record { main = main_alone t there; code = start_code t }

@@ -28,7 +28,7 @@ use Rattle.code_reader.proofs.Sound.{sound_instruction, starts_at_pc}
 use Rattle.link_laws.proofs.Cuts.{cut_instruction}
 use Rattle.code_reader.proofs.Places.{rises_from, in_order, within}
 use Rattle.code_reader.proofs.ReadingLaws.{read_alone}
-use Rattle.link_laws.specs.Linked.{IsLinkedFrom, IsReadFile, IsReadCode}
+use Rattle.class_grammar.specs.ReadFiles.{IsReadFile, IsReadCode}
 use Rattle.link_laws.specs.Methods.{StartsAt, ReadsAt, IsCodeOf, IsWhole, MethodsHold}
 use Rattle.link_laws.proofs.Above.{find_none}
 use Rattle.link_laws.proofs.Classes.{built_in_length}
@@ -123,10 +123,10 @@ instrs_are c instrs h = sym (ap instructions_in (read_alone c.code c.table instr
 pub read_whole : (c : Code) → 1 ≤ length c.code → IsReadCode c → IsCodeOf c (instructions_of c.code)
 read_whole c filled r = code_whole c (instructions_of c.code) filled (subst (IsCode c.code c.table) (instrs_are c r.0 r.1) r.1)
 
-module _ (plan : Plan) (files : List ClassFile) (s : System) (from : IsLinkedFrom plan files s) where
+module _ (plan : Plan) (files : List ClassFile) (s : System) (from : IsLinked plan files s) where
   -- that the system is linked
   abbrev linked : IsLinked plan files s
-  linked = from.linked
+  linked = from
 
   -- the method at a place comes from the source there
   pub source_at : (m : ℕ) (x : Method) → method_at s m ≡ Some x → (y : Source) × (slice_get (sources files) m ≡ Some y) × (x ≡ linked_method (selectors_of files) y)
@@ -158,7 +158,7 @@ module _ (plan : Plan) (files : List ClassFile) (s : System) (from : IsLinkedFro
   source_whole m y e h = record {
     class = source_class y (is_source files y h);
     selector = is_there (selector_at s (linked_method (selectors_of files) y).selector.0) y.declared.selector (selector_of_source y h);
-    runs = λ a. can_run plan files s linked (are_files files from.read) m (linked_method (selectors_of files) y) e a;
+    runs = λ a. can_run plan files s linked (are_files files from.has_files.read) m (linked_method (selectors_of files) y) e a;
     abstract = λ a. abstract (is_source files y h) a;
     built_in = λ a. built_in (is_source files y h) a;
     instructions = instructions (is_source files y h) y.code refl;
@@ -166,7 +166,7 @@ module _ (plan : Plan) (files : List ClassFile) (s : System) (from : IsLinkedFro
   }
     where
       method : (p : ℕ) (f : ClassFile) (m : Member) → slice_get files p ≡ Some f → Among f.methods m → IsMethod m
-      method p f m e a = of_each IsMethod f.methods m (of_each IsFile files f (are_files files from.read) (at_among files p f e)).methods a
+      method p f m e a = of_each IsMethod f.methods m (of_each IsFile files f (are_files files from.has_files.read) (at_among files p f e)).methods a
 
       abstract : IsSource files y → is_abstract y.declared.flags ≡ true → y.code ≡ None
       abstract (OfBuiltIn k e m c) a = c
@@ -187,7 +187,7 @@ module _ (plan : Plan) (files : List ClassFile) (s : System) (from : IsLinkedFro
           clash : y.code ≡ None → y.code ≡ Some d → ⊥
           clash u v = cc
       instructions (OfFile p f m c e b d w) (Some g) q =
-          let read = of_each (λ (m : Member). IfSome m.code IsReadCode) f.methods m (of_each IsReadFile files f from.read (at_among files p f e)).codes b in
+          let read = of_each (λ (m : Member). IfSome m.code IsReadCode) f.methods m (of_each IsReadFile files f from.has_files.read (at_among files p f e)).codes b in
           let same = sym w ∙ q in
           code (Some g) (subst (λ o. IfSome o IsReadCode) same read) (subst IsFilled same (method p f m e b).filled)
 

@@ -1,8 +1,9 @@
 -- The first fault of linking, and which system is linked.
 use Rattle.std.specs.Prelude.{◌≡◌, ℕ, zero, suc, Bool, true, false, ◌&&◌, ◌||◌, not, List, [], ◌∷◌, ◌++◌, length, map, flat_map, Option, Some, None, is_some, ◌==◌, nat_lt, if◌then◌else◌, slice_get, codes}
-use Rattle.std.specs.List.{list_any, filter_map, find}
+use Rattle.std.specs.List.{AllByRecursion, list_any, filter_map, find}
 use Rattle.std.specs.Str.{bytes_eq}
 use Rattle.std.specs.Fmt.{decimal}
+use Rattle.class_grammar.specs.ReadFiles.{IsReadFile}
 use Rattle.jx_base.specs.declared.class_file.ClassFile.{ClassFile}
 use Rattle.jx_base.specs.declared.class_file.Constant.{Constant}
 use Rattle.jx_base.specs.declared.class_file.Constant.TheVariants as constant
@@ -271,10 +272,11 @@ first_link_fault plan files = first_some (template_fault (outline plan files) pl
 
 -- ---- linked systems
 
--- a plan with a class file for each of its classes
+-- a plan with a class file for each of its classes, each of which was read
 pub record HasFiles (plan : Plan) (files : List ClassFile) : Type 0 where
   pub range : IsPlanInRange plan
   pub count : length files ≡ length plan.classes
+  pub read : AllByRecursion IsReadFile files
 
 -- the system is the one that the plan and the class files of its classes link to
 pub record IsLinked (plan : Plan) (files : List ClassFile) (s : System) : Type 0 where

@@ -11,7 +11,7 @@ use Rattle.program_model.specs.Lookup.{class_at, class_count, class_fits, class_
 use Rattle.machine_model.specs.ObjectRows.{field_type}
 use Rattle.jx_base.specs.Basics.{passes}
 use Rattle.jx_base.proofs.BasicLaws.{passed, eq_of}
-use Rattle.link_laws.specs.Linked.{IsLinkedFrom}
+use Rattle.link_model.specs.LinkFaults.{IsLinked}
 use Rattle.link_laws.specs.Supers.{right_above}
 use Rattle.link_laws.proofs.Lists.{Among, from_flat, number_among, same_there}
 use Rattle.sound_laws.proofs.Tables.{built_in, named, fits_named, clash}
@@ -101,7 +101,7 @@ named_fits s a (u ∷ units) p h = by (u == 91) refl h
     by true e q = absurd (clash (fits_type s a (u ∷ units)) q (no_array_fits s a u units e p))
     by false e q = sym (fits_named s a (u ∷ units)) ∙ q
 
-module _ (plan : Plan) (files : List ClassFile) (s : System) (from : IsLinkedFrom plan files s) where
+module _ (plan : Plan) (files : List ClassFile) (s : System) (from : IsLinked plan files s) where
   -- what stands above a class of the table: itself, and what is above what is right above it
   step : (n c x : ℕ) → c < built_in_count → Among (supers_within s (suc n) c) x → (c ≡ x) ⊎ ((y : ℕ) × Among (above_of (slice_get built_in_table c)) y × Among (supers_within s n y) x)
   unfolding supers_within above_of

@@ -17,7 +17,9 @@ use Rattle.jx_base.specs.declared.constant_tag.ConstantTag.{ConstantTag}
 use Rattle.jx_base.specs.declared.constant_tag.ConstantTag.TheVariants as tag
 use Rattle.jx_base.specs.declared.fault.ClassFault.{ClassFault}
 use Rattle.link_laws.proofs.Lists.{among_either, of_each, of_all}
-use Rattle.sound_laws.specs.Bytes.{AreBytes, HaveByteCodes, IsFileOfBytes}
+use Rattle.sound_laws.proofs.ByteCodes.{HaveByteCodes}
+use Rattle.class_grammar.specs.ReadFiles.{AreBytes}
+use Rattle.class_grammar.specs.ReadFiles.{IsReadFile}
 use Rattle.sound_laws.proofs.Operands.{behind_bytes}
 
 -- what stands in front is of bytes
@@ -237,6 +239,8 @@ file_bytes bytes f h a =
     subst (λ (x : ClassFile). AreOfBytes x.methods) (sym methods.3.3.3.3.0)
     (repeated_bytes _ (λ bs ms rest k z. method_bytes size pool.0 _ bs ms rest k z) methods.2.0 methods.2.1 methods.0 methods.1 methods.2.3 b5)
 
--- so is the code of files of bytes
-pub files_bytes : (files : List ClassFile) → AllByRecursion IsFileOfBytes files → HaveByteCodes files
-files_bytes files h = of_all (λ (f : ClassFile). AreOfBytes f.methods) files (λ f a. let r = of_each IsFileOfBytes files f h a in file_bytes r.0 f r.2 r.1)
+-- so is the code of files that were read
+pub files_bytes : (files : List ClassFile) → AllByRecursion IsReadFile files → HaveByteCodes files
+files_bytes files h =
+    of_all (λ (f : ClassFile). AreOfBytes f.methods) files
+    (λ f a. let r = of_each IsReadFile files f h a in file_bytes r.bytes f r.file r.are_bytes)

@@ -28,7 +28,7 @@ use Rattle.machine_model.specs.NumericRows.{Locals, Stack, NumericOutcome, depth
 use Rattle.machine_model.specs.NumericRows.{NumericOutcome as numeric}
 use Rattle.machine_model.specs.State.{code_bytes, class_of_frame, stack_limit}
 use Rattle.jx_base.proofs.BasicLaws.{both, eq_of}
-use Rattle.link_laws.specs.Linked.{IsLinkedFrom}
+use Rattle.link_model.specs.LinkFaults.{IsLinked}
 use Rattle.link_laws.specs.Methods.{StartsAt}
 use Rattle.link_laws.proofs.Hierarchy.{contains_among}
 use Rattle.link_laws.proofs.Lists.{Among}
@@ -327,7 +327,7 @@ outcome_or_lands T (numeric.Raise c) other h i = tt
 outcome_or_lands T numeric.BadCode other h i = tt
 outcome_or_lands T numeric.NotMine other h i = i
 
-module _ (plan : Plan) (files : List ClassFile) (s : System) (from : IsLinkedFrom plan files s) where
+module _ (plan : Plan) (files : List ClassFile) (s : System) (from : IsLinked plan files s) where
   -- a jump leads to an instruction
   pub jumps : (f g : Frame) (r : Reading) (to : ℕ) (l : Locals) (k : Stack) → IsPlaced s f → instruction_at (code_bytes s f) f.pc ≡ Some r →
       numeric_row s (class_of_frame s f) (stack_limit s f) r.instr f.locals f.stack.values ≡ numeric.Jump to l k → g.method ≡ f.method → g.pc ≡ to → IsPlaced s g

@@ -17,7 +17,7 @@ use Rattle.program_model.specs.Instructions.{Reading, instruction_at, index_oper
 use Rattle.link_model.specs.LinkFaults.{dimensions_of}
 use Rattle.program_model.specs.Lookup.{class_at, constant_at, method_at}
 use Rattle.machine_model.specs.State.{code_of, code_bytes, class_of_frame}
-use Rattle.link_laws.specs.Linked.{IsLinkedFrom}
+use Rattle.link_model.specs.LinkFaults.{IsLinked}
 use Rattle.link_laws.specs.Meanings.{FitsUse}
 use Rattle.link_laws.proofs.Fitting.{constants_fit}
 use Rattle.link_laws.proofs.Lists.{same_there}
@@ -27,7 +27,7 @@ use Rattle.std.specs.Option.{option_and_then, option_map, unwrap_or}
 
 -- ---- dimensions
 
-module _ (plan : Plan) (files : List ClassFile) (s : System) (from : IsLinkedFrom plan files s) where
+module _ (plan : Plan) (files : List ClassFile) (s : System) (from : IsLinked plan files s) where
   -- an array of arrays has the dimensions that are made
   pub dimensions : (f : Frame) (r : Reading) (c : ClassId) (k : Class) → IsPlaced s f → instruction_at (code_bytes s f) f.pc ≡ Some r → row_at r.instr.opcode ≡ row.NewMultiArray →
       constant_at s (class_of_frame s f) (index_operand r.instr 0) ≡ Some (resolved.Class c) → class_at s c.0 ≡ Some k → index_operand r.instr 1 ≤ dimensions_of k.name

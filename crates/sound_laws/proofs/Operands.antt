@@ -12,7 +12,7 @@ use Rattle.jx_base.specs.declared.class_file.Code.{Code}
 use Rattle.jx_base.specs.declared.class_file.Instr.{Instr}
 use Rattle.code_reader.specs.CodeReading.{code_reading}
 use Rattle.code_reader.proofs.ReadingLaws.{code_found}
-use Rattle.link_laws.specs.Linked.{IsReadCode}
+use Rattle.class_grammar.specs.ReadFiles.{IsReadCode}
 use Rattle.jx_base.specs.declared.fault.CodeFault.{CodeFault}
 use Rattle.jx_base.specs.declared.fault.CodeKind.{CodeKind}
 use Rattle.jx_base.specs.declared.fault.CodeKind.TheVariants as kind
@@ -22,7 +22,8 @@ use Rattle.jx_base.specs.declared.row.Form.{Form}
 use Rattle.jx_base.specs.declared.row.Form.TheVariants as form
 use Rattle.program_model.specs.Instructions.{Reading, instruction_at, operand, opened_instructions}
 use Rattle.machine_model.specs.State.{code_of, code_bytes}
-use Rattle.sound_laws.specs.Bytes.{AreBytes, HasByteCodes}
+use Rattle.sound_laws.proofs.ByteCodes.{HasByteCodes}
+use Rattle.class_grammar.specs.ReadFiles.{AreBytes}
 use Rattle.sound_laws.proofs.Places.{spelled_at, none_of_none}
 
 -- ---- code that is not of bytes

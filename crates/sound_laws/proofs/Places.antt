@@ -19,7 +19,7 @@ use Rattle.machine_model.specs.NumericRows.{Locals}
 use Rattle.machine_model.specs.State.{code_of, code_bytes, frame_with, pc_behind, handler_in, is_handler_for}
 use Rattle.jx_base.proofs.BasicLaws.{both}
 use Rattle.code_reader.proofs.Sound.{sound_instruction, starts_at_pc, takes_a_byte}
-use Rattle.link_laws.specs.Linked.{IsLinkedFrom}
+use Rattle.link_model.specs.LinkFaults.{IsLinked}
 use Rattle.link_laws.specs.Methods.{StartsAt, IsCodeOf}
 use Rattle.link_laws.proofs.Above.{find_some, find_none}
 use Rattle.link_laws.proofs.Hierarchy.{contains_among}
@@ -118,7 +118,7 @@ code_is : (s : System) (m : ℕ) (c : Code) (k : Method) → code_of s m ≡ Som
 unfolding code_of
 code_is s m c k e h = let r = and_then_some (method_at s m) (λ (x : Method). x.code) c e in ap (λ (x : Method). x.code) (same_there k r.0 (sym h ∙ r.1)) ∙ r.2
 
-module _ (plan : Plan) (files : List ClassFile) (s : System) (from : IsLinkedFrom plan files s) where
+module _ (plan : Plan) (files : List ClassFile) (s : System) (from : IsLinked plan files s) where
   -- a frame at an instruction of its code, or at its end, is placed
   pub placed : (g : Frame) → ((k : Method) (c : Code) → method_at s g.method ≡ Some k → k.code ≡ Some c → IsCodeOf c k.instrs → StartsAt k.instrs (pos g.pc) ⊎ (g.pc ≡ length c.code)) → IsPlaced s g
   placed g at k r e h = by k.code refl ((methods_hold plan files s from).whole g.method k e).instructions (ap (λ bs. instruction_at bs g.pc) (sym (bytes_are s g k e)) ∙ h)

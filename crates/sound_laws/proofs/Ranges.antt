@@ -23,7 +23,8 @@ use Rattle.link_model.specs.ClassFiles.{constant_in, text_of_constant, text_in, 
 use Rattle.link_model.specs.Linking.{outline, class_of_file, array_class_named, meaning_of, meanings_from, meanings_of, in_class, found_field, own_field, own_instance_field, own_static_field, statics_before}
 use Rattle.program_model.specs.Lookup.{class_at, class_named, constant_at, is_built_in, supers_of}
 use Rattle.jx_base.specs.Basics.{contains_number}
-use Rattle.link_laws.specs.Linked.{IsLinkedFrom, IsReadFile}
+use Rattle.link_model.specs.LinkFaults.{IsLinked}
+use Rattle.class_grammar.specs.ReadFiles.{IsReadFile}
 use Rattle.link_laws.proofs.Files.{HasUnits, IsFile}
 use Rattle.link_laws.proofs.Lists.{Among, of_each, at_among, each_among, position_at, same_there}
 use Rattle.link_laws.proofs.Names.{are_files}
@@ -181,13 +182,13 @@ field_ranged s o y c x e =
     by k (Some r) g q = let i = mapped_some (λ (i : ℕ). resolved.Instance (record { 0 = c }) i) _ r g in subst (IsResolvedIn s) (i.2 ∙ same_there r x q) tt
     by k None g q = let i = mapped_some (λ (i : ℕ). resolved.Static (record { 0 = c }) (statics_before o c + i)) _ x q in subst (IsResolvedIn s) i.2 tt
 
-module _ (plan : Plan) (files : List ClassFile) (s : System) (from : IsLinkedFrom plan files s) where
+module _ (plan : Plan) (files : List ClassFile) (s : System) (from : IsLinked plan files s) where
   -- the class of a name is one of the system
   class_ranged : (name : List ℕ) (c : ℕ) → class_named (outline plan files) name ≡ Some c → IsSome (class_at s c)
   unfolding class_named class_at
   class_ranged name c e =
       let r = position_at (λ (k : Class). bytes_eq k.name name) (outline plan files).program.classes c e in
-      ap is_some (class_linked plan files s from.linked c r.0 r.1)
+      ap is_some (class_linked plan files s from c r.0 r.1)
 
   -- the meaning of a constant is in its range
   meaning_ranged : (f : ClassFile) (k : Constant) (x : Resolved) → AllByRecursion HasUnits f.constants → IsRanged k → meaning_of (outline plan files) f k ≡ Some x → IsResolvedIn s x
@@ -211,16 +212,16 @@ module _ (plan : Plan) (files : List ClassFile) (s : System) (from : IsLinkedFro
   unfolding constant_at class_at outline meanings_of
   constants c i x e =
       let k = and_then_some (class_at s c) (λ (y : Class). slice_get y.constants i) x e in
-      let r = class_outlined plan files s from.linked c k.0 k.1 in
+      let r = class_outlined plan files s from c k.0 k.1 in
       by k.0 r.0 r.2 (is_outlined plan files c r.0 r.1) k.2
     where
       by : (k h : Class) → k ≡ meant_of (outline plan files) files c h → IsOutlined plan files c h → slice_get k.constants i ≡ Some x → IsResolvedIn s x
       by k h q o g = elim (meant_constants (outline plan files) files c h) [
         | inl w ↦ absurd (of_empty k.constants i x (ap (λ (y : Class). y.constants) q ∙ w ∙ outlined_bare plan files c h o) g)
         | inr w ↦
-            let read = of_each IsReadFile files w.0 from.read w.1 in
+            let read = of_each IsReadFile files w.0 from.has_files.read w.1 in
             elim (from_meanings (outline plan files) w.0 _ 0 w.0.constants i x (ap (λ xs. slice_get xs i) (sym (ap (λ (y : Class). y.constants) q ∙ w.2)) ∙ g)) [
               | inl z ↦ subst (IsResolvedIn s) (sym z) tt
-              | inr z ↦ meaning_ranged w.0 z.0 x (of_each IsFile files w.0 (are_files files from.read) w.1).texts (of_each IsRanged w.0.constants z.0 (file_ranged read.file.0 w.0 read.file.1) z.1) z.2
+              | inr z ↦ meaning_ranged w.0 z.0 x (of_each IsFile files w.0 (are_files files from.has_files.read) w.1).texts (of_each IsRanged w.0.constants z.0 (file_ranged read.bytes w.0 read.file) z.1) z.2
             ]
       ]

@@ -11,19 +11,20 @@ use Rattle.jx_base.specs.declared.program.System.{System}
 use Rattle.link_model.specs.Linking.{Source, linked_method}
 use Rattle.program_model.specs.Lookup.{method_at}
 use Rattle.machine_model.specs.State.{code_of}
-use Rattle.link_laws.specs.Linked.{IsLinkedFrom}
+use Rattle.link_model.specs.LinkFaults.{IsLinked}
 use Rattle.link_laws.proofs.Lists.{at_among, of_each}
 use Rattle.link_laws.proofs.Origins.{method_source}
 use Rattle.link_laws.proofs.Sources.{IsSource, OfBuiltIn, OfFile, is_source}
 use Rattle.link_laws.proofs.Uses.{and_then_some}
-use Rattle.sound_laws.specs.Bytes.{AreBytes, HasByteCodes, HaveByteCodes}
+use Rattle.sound_laws.proofs.ByteCodes.{HasByteCodes, HaveByteCodes}
+use Rattle.class_grammar.specs.ReadFiles.{AreBytes}
 
 -- a method's code is of bytes, where the files' code is
-pub byte_codes : (plan : Plan) (files : List ClassFile) (s : System) → IsLinkedFrom plan files s → HaveByteCodes files → HasByteCodes s
+pub byte_codes : (plan : Plan) (files : List ClassFile) (s : System) → IsLinked plan files s → HaveByteCodes files → HasByteCodes s
 unfolding code_of linked_method
 byte_codes plan files s from h m c e =
     let x = and_then_some (method_at s m) (λ (x : Method). x.code) c e in
-    let y = method_source plan files s from.linked m x.0 x.1 in
+    let y = method_source plan files s from m x.0 x.1 in
     by y.0 (is_source files y.0 y.1) (ap (λ (z : Method). z.code) (sym y.2) ∙ x.2)
   where
     clash : (o : Option Code) → o ≡ None → o ≡ Some c → ⊥

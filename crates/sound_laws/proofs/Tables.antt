@@ -19,7 +19,7 @@ use Rattle.program_model.specs.Lookup.{class_at, class_named, method_at, selecto
 use Rattle.program_model.specs.Types.{is_reference_type}
 use Rattle.jx_base.specs.Basics.{passes, opened_basics}
 use Rattle.jx_base.proofs.BasicLaws.{passed, eq_of}
-use Rattle.link_laws.specs.Linked.{IsLinkedFrom}
+use Rattle.link_model.specs.LinkFaults.{IsLinked}
 use Rattle.link_laws.proofs.Classes.{built_in_length}
 use Rattle.link_laws.proofs.Hierarchy.{built_in_there}
 use Rattle.link_laws.proofs.Lists.{at_among, at_below, below_length, each_among, in_range, position_at, position_there, same_text, text_itself}
@@ -83,12 +83,12 @@ fits_named s a name = ap (passes (is_below s a)) (type_class s name)
 pub clash : (b : Bool) → b ≡ true → b ≡ false → ⊥
 clash b x y = cc
 
-module _ (plan : Plan) (files : List ClassFile) (s : System) (from : IsLinkedFrom plan files s) where
+module _ (plan : Plan) (files : List ClassFile) (s : System) (from : IsLinked plan files s) where
   -- the built-in classes stand first
   pub built_in : (c : ℕ) → c < built_in_count → class_at s c ≡ slice_get built_in_table c
   built_in c h =
       let k = at_below built_in_table c (omega (arith, built_in_length, h)) in
-      built_in_there plan files s from.linked c k.0 h k.1 ∙ ap Some (meant_itself (outline plan files) files c k.0 h) ∙ sym k.1
+      built_in_there plan files s from c k.0 h k.1 ∙ ap Some (meant_itself (outline plan files) files c k.0 h) ∙ sym k.1
 
   -- a class is found by its name
   pub named : (c : ℕ) (k : Class) → class_at s c ≡ Some k → class_named s k.name ≡ Some c
@@ -140,5 +140,5 @@ module _ (plan : Plan) (files : List ClassFile) (s : System) (from : IsLinkedFro
   unfolding template_at
   heaps t x e =
       let there : slice_get plan.templates t ≡ Some x = ap (λ (p : Plan). slice_get p.templates t) (sym (same_plan plan files s from)) ∙ e in
-      let range = from.linked.has_files.range.templates t x (below_length plan.templates t x there) in
+      let range = from.has_files.range.templates t x (below_length plan.templates t x there) in
       subst (λ (y : Template). y.heap ≤ 131072) (get_or_from_slice_get plan.templates t x x there) range.heap.1

@@ -15,7 +15,7 @@ use Rattle.link_model.specs.LinkFaults.{listed_name, listed_names, has_text, is_
 use Rattle.link_model.specs.Linking.{outline, class_number, class_id, class_of_file, array_class_named}
 use Rattle.program_model.specs.Lookup.{class_at, class_count, is_below, parent_list, supers_of, supers_within}
 use Rattle.jx_base.proofs.BasicLaws.{both, eq_of}
-use Rattle.link_laws.specs.Linked.{IsLinkedFrom}
+use Rattle.link_model.specs.LinkFaults.{IsLinked}
 use Rattle.link_laws.specs.Supers.{right_above}
 use Rattle.link_laws.proofs.Classes.{name_of, own_not_others, plan_others, is_own, built_in_own}
 use Rattle.link_laws.proofs.Climbs.{super_number}
@@ -98,7 +98,7 @@ array_free name x d f = elim (among_either (map (λ (i : ClassId). i.0) (array_c
   | inr v ↦ elim (subst (λ (o : Option ClassId). Among (parent_list o) x) (array_parent name) v) [ inl z ↦ clash (is_final 0) (ap is_final z ∙ f) not_object | inr z ↦ absurd z ]
 ]
 
-module _ (plan : Plan) (files : List ClassFile) (s : System) (from : IsLinkedFrom plan files s) where
+module _ (plan : Plan) (files : List ClassFile) (s : System) (from : IsLinked plan files s) where
   -- the name of a final class
   final_named : (name : List ℕ) (c : ℕ) → is_final c ≡ true → class_number plan name ≡ Some c → (name ≡ codes "java/lang/String") ⊎ (name ≡ codes "java/lang/StringBuilder")
   unfolding class_number
@@ -136,7 +136,7 @@ module _ (plan : Plan) (files : List ClassFile) (s : System) (from : IsLinkedFro
 
       listed : (name : List ℕ) → Among plan.classes name → (name ≡ codes "java/lang/String") ⊎ (name ≡ codes "java/lang/StringBuilder") → ⊥
       listed name a n =
-          let other = plan_others plan files s from.linked name a in
+          let other = plan_others plan files s from name a in
           elim n [
             | inl e ↦ own_not_others name (each_among is_own (map name_of built_in_table) name built_in_own (subst (Among (map name_of built_in_table)) (sym e) (at_among (map name_of built_in_table) 1 _ string_there))) other
             | inr e ↦ own_not_others name (each_among is_own (map name_of built_in_table) name built_in_own (subst (Among (map name_of built_in_table)) (sym e) (at_among (map name_of built_in_table) 2 _ builder_there))) other
@@ -146,17 +146,17 @@ module _ (plan : Plan) (files : List ClassFile) (s : System) (from : IsLinkedFro
   file_free : (p : ℕ) (f : ClassFile) → slice_get files p ≡ Some f → (x : ℕ) → Among (right_above (class_of_file plan files (built_in_count + p) f)) x → is_final x ≡ true → ⊥
   unfolding class_of_file class_id parent_list
   file_free p f e x a h =
-      let l = file_listed plan files s from.linked p f e in
-      let q = super_number plan files s from.linked l.0 p l.1 f l.2 in
+      let l = file_listed plan files s from p f e in
+      let q = super_number plan files s from l.0 p l.1 f l.2 in
       elim (among_either (map (λ (i : ClassId). i.0) (filter_map (class_id plan) (interface_names f))) (parent_list (class_id plan (super_name f))) x a) [
-        | inl b ↦ let r = from_map (λ (i : ClassId). i.0) (filter_map (class_id plan) (interface_names f)) x b in interface r.0 r.2 (interface_named plan files s from.linked l.0 p l.1 f l.2 r.0 r.1)
+        | inl b ↦ let r = from_map (λ (i : ClassId). i.0) (filter_map (class_id plan) (interface_names f)) x b in interface r.0 r.2 (interface_named plan files s from l.0 p l.1 f l.2 r.0 r.1)
         | inr b ↦ elim (subst (λ (o : Option ClassId). Among (parent_list o) x) (ap (option_map (λ (c : ℕ). record { 0 = c })) q.1) b) [
-          | inl w ↦ may_not l.0 f (super_name f) (listed_sound plan files s from.linked l.0 p l.1 f l.2).extends (final_named (super_name f) x h (q.1 ∙ ap Some w))
+          | inl w ↦ may_not l.0 f (super_name f) (listed_sound plan files s from l.0 p l.1 f l.2).extends (final_named (super_name f) x h (q.1 ∙ ap Some w))
           | inr w ↦ absurd w
         ]
       ]
     where
-      interface : {t : Template} (i : ClassId) → i.0 ≡ x → IsNamedInterface plan files s from.linked t i.0 → ⊥
+      interface : {t : Template} (i : ClassId) → i.0 ≡ x → IsNamedInterface plan files s from t i.0 → ⊥
       interface i g (OfPortals z) = clash (is_final portal_class) (ap is_final (sym z ∙ g) ∙ h) not_portal
       interface i g (OfListed r k z b d v) = not_listed r (ap is_final (sym z ∙ g) ∙ h)
 
@@ -167,7 +167,7 @@ module _ (plan : Plan) (files : List ClassFile) (s : System) (from : IsLinkedFro
   -- nothing stands right below a final class
   none_below : (c : ℕ) (k : Class) → class_at s c ≡ Some k → (x : ℕ) → Among (right_above k) x → is_final x ≡ true → ⊥
   unfolding class_at outline parent_list
-  none_below c k e x a f = let r = class_outlined plan files s from.linked c k e in by r.0 r.2 (is_outlined plan files c r.0 r.1)
+  none_below c k e x a f = let r = class_outlined plan files s from c k e in by r.0 r.2 (is_outlined plan files c r.0 r.1)
     where
       of : (h : Class) → IsOutlined plan files c h → Among (right_above h) x → ⊥
       of h (IsBuiltIn small w) b = unturn (is_final x) (each_among (λ x. not (is_final x)) (right_above h) x (each_among (λ (k : Class). list_all (λ x. not (is_final x)) (right_above k)) built_in_table h built_in_free (at_among built_in_table c h w)) b) f

@@ -1,4 +1,3 @@
-pub mod ClassFileCases
 pub mod NumericCases
 pub mod Programs
 pub mod MachineCases
