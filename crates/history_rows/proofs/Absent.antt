@@ -11,7 +11,7 @@ use Rattle.jx_base.proofs.NthEntries.{count_grows}
 use Rattle.jx_model.proofs.Acting.{acting_within}
 use Rattle.jx_model.proofs.OneThread.{serves_same, last_same}
 use Rattle.history_rows.proofs.Actors.{unmade_acts}
-use Rattle.history_rows.proofs.ThreadRows.{same_threads, no_threads}
+use Rattle.history_rows.proofs.ThreadRecords.{same_threads, no_threads}
 
 -- an entry isn't of a thread that wasn't there before it
 pub stranger : (s : System) (past : Past) (e : Entry) (d t : ℕ) → IsNext s past e → length (service_threads past d) < t → is_of_thread d t e ≡ false

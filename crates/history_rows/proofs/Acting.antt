@@ -1,4 +1,4 @@
--- The thread in which an act may come, read off the rows.
+-- The thread in which an act may come, read off the records.
 use Rattle.std.proofs.Common.{◌≡◌, refl, sym, ◌∙◌, ap, ℕ, suc, zero, ◌+◌, ◌≤◌, Bool, true, false, not, ◌&&◌, ◌||◌, List, [], ◌∷◌, length, map, Option, Some, None, arith, ◌==◌, if◌then◌else◌, ◌⊎◌, inl, inr, slice_get, ◌<◌, is_some, is_none}
 use Rattle.std.specs.Prelude.{nat_le, nat_lt}
 use Rattle.std.specs.List.{range_with_len}
@@ -19,12 +19,12 @@ use Rattle.jx_model.specs.Portals.{owner_of, services_made, export_of, is_export
 use Rattle.jx_model.specs.Calls.{calls_made, service_of_call, server_of, queue_head, waiting_calls, asked_of, asked_by, call_entry}
 use Rattle.jx_model.specs.Permits.{domain_thread, may_perform, choice_thread, taking_thread, resuming_thread, going_thread, idle_thread, is_idle_for, is_waiting_for, is_yielded, is_serving, is_head, is_zero_act, is_choice, is_over, is_ending, creates_made, is_create_entry, acting_thread, zero_may, zero_may_now, domains_wait, is_halt, next_boot, boot_templates, first_alive}
 use Rattle.program_model.specs.Limits.{journal_limit, entry_limit}
-use Rattle.jx_model.specs.Tables.{domain_rows, ThreadRow, thread_row, thread_rows, CallRow, call_row, call_rows, ServiceRow, service_row, service_rows}
+use Rattle.jx_model.specs.Tables.{domain_records, ThreadRecord, thread_record, thread_records, CallRecord, call_record, call_records, ServiceRecord, service_record, service_records}
 use Rattle.jx_base.proofs.BasicLaws.{ap2, ap3}
 use Rattle.jx_base.proofs.NthEntries.{nth_passes, nth_there, nth_none}
-use Rattle.history_rows.proofs.Rows.{get_range, some_of}
+use Rattle.history_rows.proofs.Records.{get_range, some_of}
 use Rattle.history_rows.proofs.CallActs.{call_service_there}
-use Rattle.history_rows.proofs.Permission.{lives_in, thread_in, running_in, resumable_in, head_in, lives_by_rows, thread_by_rows, running_by_rows, resumable_by_rows, head_by_rows, state_by_row, numbered_row, no_row, unmade_entry}
+use Rattle.history_rows.proofs.Permission.{lives_in, thread_in, running_in, resumable_in, head_in, lives_by_records, thread_by_records, running_by_records, resumable_by_records, head_by_records, state_by_record, numbered_record, no_record, unmade_entry}
 use Rattle.std.specs.Option.{option_and_then, option_map, unwrap_or}
 
 -- ---- counters
@@ -44,7 +44,7 @@ pub creates_step : (e : Entry) (past : Past) → creates_made (e ∷ past) ≡ c
 unfolding count_where
 creates_step e past = refl
 
--- ---- reads of rows
+-- ---- reads of records
 
 get_none : {A : Type 0} (xs : List A) (i : ℕ) → length xs ≤ i → slice_get xs i ≡ None
 get_none [] i l = refl
@@ -64,22 +64,22 @@ unfolding thread_state
 no_state past d zero l = absurd (omega (arith, l))
 no_state past d (suc t) l = ap (option_map _) (get_none (service_threads past d) t (omega (arith, l)))
 
--- the rows say what a thread does, where the domain has it
-pub state_by_rows : (past : Past) (d t : ℕ) → thread_state past d t ≡ option_map (λ row. row.state) (slice_get (thread_rows past d) t)
-unfolding thread_rows threads_of
-state_by_rows past d t = by (nat_le t (length (service_threads past d))) refl
+-- the records say what a thread does, where the domain has it
+pub state_by_records : (past : Past) (d t : ℕ) → thread_state past d t ≡ option_map (λ item. item.state) (slice_get (thread_records past d) t)
+unfolding thread_records threads_of
+state_by_records past d t = by (nat_le t (length (service_threads past d))) refl
   where
-    by : (b : Bool) → nat_le t (length (service_threads past d)) ≡ b → thread_state past d t ≡ option_map (λ row. row.state) (slice_get (map (thread_row past d) (range_with_len 0 (length (service_threads past d) + 1))) t)
+    by : (b : Bool) → nat_le t (length (service_threads past d)) ≡ b → thread_state past d t ≡ option_map (λ item. item.state) (slice_get (map (thread_record past d) (range_with_len 0 (length (service_threads past d) + 1))) t)
     by true q =
         let l = at_most t (length (service_threads past d)) q in
-        state_by_row past d t l
-        ∙ sym (ap (option_map (λ (row : ThreadRow). row.state)) (get_range (thread_row past d) 0 (length (service_threads past d) + 1) t (omega (arith, l))) ∙ ap (λ (j : ℕ). Some (thread_row past d j).state) (omega arith))
+        state_by_record past d t l
+        ∙ sym (ap (option_map (λ (item : ThreadRecord). item.state)) (get_range (thread_record past d) 0 (length (service_threads past d) + 1) t (omega (arith, l))) ∙ ap (λ (j : ℕ). Some (thread_record past d j).state) (omega arith))
     by false q =
         let l = beyond t (length (service_threads past d)) q in
         no_state past d t l
-        ∙ sym (ap (option_map (λ (row : ThreadRow). row.state)) (get_none (map (thread_row past d) (range_with_len 0 (length (service_threads past d) + 1))) t (omega (arith, l, length-map-range_with_len (thread_row past d) 0 (length (service_threads past d) + 1)))))
+        ∙ sym (ap (option_map (λ (item : ThreadRecord). item.state)) (get_none (map (thread_record past d) (range_with_len 0 (length (service_threads past d) + 1))) t (omega (arith, l, length-map-range_with_len (thread_record past d) 0 (length (service_threads past d) + 1)))))
 
--- what a row gives by its number, where what isn't made gives nothing
+-- what a record gives by its number, where what isn't made gives nothing
 pub by_number : {A B : Type 0} (f : ℕ → A) (g : A → B) (n c : ℕ) (o : Option B) → ((1 ≤ c) → c ≤ n → o ≡ Some (g (f c))) → ((c ≡ 0) ⊎ (n < c) → o ≡ None) → o ≡ option_map g (numbered (map f (up_to n)) c)
 by_number f g n c o there none = by (nat_lt 0 c) refl (nat_le c n) refl
   where
@@ -90,15 +90,15 @@ by_number f g n c o there none = by (nat_lt 0 c) refl (nat_le c n) refl
     zeroth c q = grind (arith, nat_tests)
 
     by : (x : Bool) → nat_lt 0 c ≡ x → (y : Bool) → nat_le c n ≡ y → o ≡ option_map g (numbered (map f (up_to n)) c)
-    by false q y r = none (inl (zeroth c q)) ∙ sym (ap (option_map g) (no_row f n c (inl (zeroth c q))))
-    by true q false r = none (inr (beyond c n r)) ∙ sym (ap (option_map g) (no_row f n c (inr (beyond c n r))))
-    by true q true r = there (some c q) (at_most c n r) ∙ sym (ap (option_map g) (numbered_row f n c (some c q) (at_most c n r)))
+    by false q y r = none (inl (zeroth c q)) ∙ sym (ap (option_map g) (no_record f n c (inl (zeroth c q))))
+    by true q false r = none (inr (beyond c n r)) ∙ sym (ap (option_map g) (no_record f n c (inr (beyond c n r))))
+    by true q true r = there (some c q) (at_most c n r) ∙ sym (ap (option_map g) (numbered_record f n c (some c q) (at_most c n r)))
 
--- the rows say a call's service
-pub service_by_rows : (past : Past) (c : ℕ) → service_of_call past c ≡ option_map (λ row. row.service) (numbered (call_rows past) c)
-unfolding call_rows call_row service_of_call asked_of call_entry
-service_by_rows past c =
-    by_number (call_row past) (λ (row : CallRow). row.service) (calls_made past) c (service_of_call past c) (λ l u. call_service_there past c l u)
+-- the records say a call's service
+pub service_by_records : (past : Past) (c : ℕ) → service_of_call past c ≡ option_map (λ item. item.service) (numbered (call_records past) c)
+unfolding call_records call_record service_of_call asked_of call_entry
+service_by_records past c =
+    by_number (call_record past) (λ (item : CallRecord). item.service) (calls_made past) c (service_of_call past c) (λ l u. call_service_there past c l u)
     (λ h. ap (λ (o : Option Entry). option_map (λ a. a.service.0) (option_and_then (λ e. asked_by e.act) o)) (unmade_entry past c h))
 
 -- a service that isn't made has no export
@@ -111,11 +111,11 @@ no_export past k (inl q) = by (nth_entry is_export past k) refl
     by None z = refl
     by (Some x) z = absurd (omega (arith, (nth_passes is_export past k x z).1, q))
 
--- the rows say a service's owner
-pub owner_by_rows : (past : Past) (k : ℕ) → owner_of past k ≡ option_map (λ row. row.owner) (numbered (service_rows past) k)
-unfolding service_rows service_row owner_of export_of
-owner_by_rows past k =
-    by_number (service_row past) (λ (row : ServiceRow). row.owner) (services_made past) k (owner_of past k) (λ l u. there (some_of (nth_entry is_export past k) (nth_there is_export past k l u)))
+-- the records say a service's owner
+pub owner_by_records : (past : Past) (k : ℕ) → owner_of past k ≡ option_map (λ item. item.owner) (numbered (service_records past) k)
+unfolding service_records service_record owner_of export_of
+owner_by_records past k =
+    by_number (service_record past) (λ (item : ServiceRecord). item.owner) (services_made past) k (owner_of past k) (λ l u. there (some_of (nth_entry is_export past k) (nth_there is_export past k l u)))
     (λ h. ap (option_map (λ (e : Entry). e.domain.0)) (no_export past k h))
   where
     there : (x : Entry) × (nth_entry is_export past k ≡ Some x) → owner_of past k ≡ Some (unwrap_or (owner_of past k) 0)
@@ -123,82 +123,82 @@ owner_by_rows past k =
 
 -- ---- the thread of an act
 
--- whether a running thread may perform the act, by the rows
-abbrev pub performs_by : List ThreadRow → ℕ → Act → Bool
-performs_by rows t (act.Return c p) = passes (is_serving c.0) (option_map (λ row. row.state) (slice_get rows t))
-performs_by rows t (act.Throw c p) = passes (is_serving c.0) (option_map (λ row. row.state) (slice_get rows t))
-performs_by rows t (act.EndThread c) = t == 0
-performs_by rows t a = not (is_zero_act a) && not (is_choice a)
+-- whether a running thread may perform the act, by the records
+abbrev pub performs_by : List ThreadRecord → ℕ → Act → Bool
+performs_by items t (act.Return c p) = passes (is_serving c.0) (option_map (λ item. item.state) (slice_get items t))
+performs_by items t (act.Throw c p) = passes (is_serving c.0) (option_map (λ item. item.state) (slice_get items t))
+performs_by items t (act.EndThread c) = t == 0
+performs_by items t a = not (is_zero_act a) && not (is_choice a)
 
--- the rows say whether it may
-pub performs_by_rows : (past : Past) (d t : ℕ) (a : Act) → may_perform past d t a ≡ performs_by (thread_rows past d) t a
+-- the records say whether it may
+pub performs_by_records : (past : Past) (d t : ℕ) (a : Act) → may_perform past d t a ≡ performs_by (thread_records past d) t a
 unfolding may_perform
-performs_by_rows past d t (act.Return c p) = ap (passes (is_serving c.0)) (state_by_rows past d t)
-performs_by_rows past d t (act.Throw c p) = ap (passes (is_serving c.0)) (state_by_rows past d t)
-performs_by_rows past d t _ = refl
+performs_by_records past d t (act.Return c p) = ap (passes (is_serving c.0)) (state_by_records past d t)
+performs_by_records past d t (act.Throw c p) = ap (passes (is_serving c.0)) (state_by_records past d t)
+performs_by_records past d t _ = refl
 
--- the service of a call, and its owner, by the rows
-abbrev pub service_in : List CallRow → ℕ → Option ℕ
-service_in calls c = option_map (λ row. row.service) (numbered calls c)
+-- the service of a call, and its owner, by the records
+abbrev pub service_in : List CallRecord → ℕ → Option ℕ
+service_in calls c = option_map (λ item. item.service) (numbered calls c)
 
--- the owner of a service, by the rows
-abbrev pub owner_in : List ServiceRow → ℕ → Option ℕ
-owner_in services k = option_map (λ row. row.owner) (numbered services k)
+-- the owner of a service, by the records
+abbrev pub owner_in : List ServiceRecord → ℕ → Option ℕ
+owner_in services k = option_map (λ item. item.owner) (numbered services k)
 
--- the thread that a choice lets run, by the rows
-abbrev pub choice_thread_by : List DomainState → List ThreadRow → List ServiceRow → List CallRow → List ℕ → ℕ → Act → Option ℕ
+-- the thread that a choice lets run, by the records
+abbrev pub choice_thread_by : List DomainState → List ThreadRecord → List ServiceRecord → List CallRecord → List ℕ → ℕ → Act → Option ℕ
 choice_thread_by domains threads services calls waiting d (act.Take c) =
     if is_number (option_and_then (owner_in services) (service_in calls c.0)) d && is_number (option_and_then (head_in calls waiting) (service_in calls c.0)) c.0
     then option_and_then (λ k. thread_in threads (is_idle_for k)) (service_in calls c.0) else None
 choice_thread_by domains threads services calls waiting d (act.Resume c) = if resumable_in domains calls c.0 then thread_in threads (is_waiting_for c.0) else None
-choice_thread_by domains threads services calls waiting d (act.Go t) = if passes is_yielded (option_map (λ row. row.state) (slice_get threads t.0)) then Some t.0 else None
+choice_thread_by domains threads services calls waiting d (act.Go t) = if passes is_yielded (option_map (λ item. item.state) (slice_get threads t.0)) then Some t.0 else None
 choice_thread_by domains threads services calls waiting d _ = None
 
 then_same : (o : Option ℕ) (f g : ℕ → Option ℕ) → ((k : ℕ) → f k ≡ g k) → option_and_then f o ≡ option_and_then g o
 then_same None f g h = refl
 then_same (Some k) f g h = h k
 
--- the rows say which thread that is
-pub choice_thread_by_rows : (s : System) (past : Past) (d : ℕ) (a : Act) →
-    choice_thread past d a ≡ choice_thread_by (domain_rows s past) (thread_rows past d) (service_rows past) (call_rows past) (waiting_calls past) d a
+-- the records say which thread that is
+pub choice_thread_by_records : (s : System) (past : Past) (d : ℕ) (a : Act) →
+    choice_thread past d a ≡ choice_thread_by (domain_records s past) (thread_records past d) (service_records past) (call_records past) (waiting_calls past) d a
 unfolding choice_thread taking_thread is_head server_of resuming_thread going_thread idle_thread
-choice_thread_by_rows s past d (act.Take c) =
+choice_thread_by_records s past d (act.Take c) =
     ap3 (λ (x y z : Option ℕ). if is_number x d && is_number y c.0 then z else None)
-    (then_same (service_of_call past c.0) (owner_of past) (owner_in (service_rows past)) (owner_by_rows past) ∙ ap (λ (o : Option ℕ). option_and_then (owner_in (service_rows past)) o) (service_by_rows past c.0))
-    (then_same (service_of_call past c.0) (queue_head past) (head_in (call_rows past) (waiting_calls past)) (head_by_rows past) ∙ ap (λ (o : Option ℕ). option_and_then (head_in (call_rows past) (waiting_calls past)) o) (service_by_rows past c.0))
-    (then_same (service_of_call past c.0) (λ k. thread_where past d (is_idle_for k)) (λ k. thread_in (thread_rows past d) (is_idle_for k)) (λ k. thread_by_rows past d (is_idle_for k))
-    ∙ ap (λ (o : Option ℕ). option_and_then (λ k. thread_in (thread_rows past d) (is_idle_for k)) o) (service_by_rows past c.0))
-choice_thread_by_rows s past d (act.Resume c) = ap2 (λ (b : Bool) (o : Option ℕ). if b then o else None) (resumable_by_rows s past c.0) (thread_by_rows past d (is_waiting_for c.0))
-choice_thread_by_rows s past d (act.Go t) = ap (λ (o : Option ThreadState). if passes is_yielded o then Some t.0 else None) (state_by_rows past d t.0)
-choice_thread_by_rows s past d _ = refl
+    (then_same (service_of_call past c.0) (owner_of past) (owner_in (service_records past)) (owner_by_records past) ∙ ap (λ (o : Option ℕ). option_and_then (owner_in (service_records past)) o) (service_by_records past c.0))
+    (then_same (service_of_call past c.0) (queue_head past) (head_in (call_records past) (waiting_calls past)) (head_by_records past) ∙ ap (λ (o : Option ℕ). option_and_then (head_in (call_records past) (waiting_calls past)) o) (service_by_records past c.0))
+    (then_same (service_of_call past c.0) (λ k. thread_where past d (is_idle_for k)) (λ k. thread_in (thread_records past d) (is_idle_for k)) (λ k. thread_by_records past d (is_idle_for k))
+    ∙ ap (λ (o : Option ℕ). option_and_then (λ k. thread_in (thread_records past d) (is_idle_for k)) o) (service_by_records past c.0))
+choice_thread_by_records s past d (act.Resume c) = ap2 (λ (b : Bool) (o : Option ℕ). if b then o else None) (resumable_by_records s past c.0) (thread_by_records past d (is_waiting_for c.0))
+choice_thread_by_records s past d (act.Go t) = ap (λ (o : Option ThreadState). if passes is_yielded o then Some t.0 else None) (state_by_records past d t.0)
+choice_thread_by_records s past d _ = refl
 
--- the thread of a domain's act, by the rows
-abbrev pub domain_thread_by : List DomainState → List ThreadRow → List ServiceRow → List CallRow → List ℕ → ℕ → Act → Option ℕ
+-- the thread of a domain's act, by the records
+abbrev pub domain_thread_by : List DomainState → List ThreadRecord → List ServiceRecord → List CallRecord → List ℕ → ℕ → Act → Option ℕ
 domain_thread_by domains threads services calls waiting d a =
     elim (running_in domains threads d) [
       | Some t ↦ if performs_by threads t a then Some t else None
       | None ↦ if lives_in domains d then choice_thread_by domains threads services calls waiting d a else None
     ]
 
--- the rows say in which thread a domain's act may come
-pub domain_thread_by_rows : (s : System) (past : Past) (d : ℕ) (a : Act) →
-    domain_thread past d a ≡ domain_thread_by (domain_rows s past) (thread_rows past d) (service_rows past) (call_rows past) (waiting_calls past) d a
+-- the records say in which thread a domain's act may come
+pub domain_thread_by_records : (s : System) (past : Past) (d : ℕ) (a : Act) →
+    domain_thread past d a ≡ domain_thread_by (domain_records s past) (thread_records past d) (service_records past) (call_records past) (waiting_calls past) d a
 unfolding domain_thread
-domain_thread_by_rows s past d a =
+domain_thread_by_records s past d a =
     by (running_thread past d)
     ∙ ap (λ (o : Option ℕ). elim o as (λ _. Option ℕ) [
-      | Some t ↦ if performs_by (thread_rows past d) t a then Some t else None
-      | None ↦ if lives_in (domain_rows s past) d then choice_thread_by (domain_rows s past) (thread_rows past d) (service_rows past) (call_rows past) (waiting_calls past) d a else None
-    ]) (running_by_rows s past d)
+      | Some t ↦ if performs_by (thread_records past d) t a then Some t else None
+      | None ↦ if lives_in (domain_records s past) d then choice_thread_by (domain_records s past) (thread_records past d) (service_records past) (call_records past) (waiting_calls past) d a else None
+    ]) (running_by_records s past d)
   where
     by : (o : Option ℕ) →
         (elim o as (λ _. Option ℕ) [ Some t ↦ if may_perform past d t a then Some t else None | None ↦ if is_live past d then choice_thread past d a else None ])
         ≡ (elim o as (λ _. Option ℕ) [
-          | Some t ↦ if performs_by (thread_rows past d) t a then Some t else None
-          | None ↦ if lives_in (domain_rows s past) d then choice_thread_by (domain_rows s past) (thread_rows past d) (service_rows past) (call_rows past) (waiting_calls past) d a else None
+          | Some t ↦ if performs_by (thread_records past d) t a then Some t else None
+          | None ↦ if lives_in (domain_records s past) d then choice_thread_by (domain_records s past) (thread_records past d) (service_records past) (call_records past) (waiting_calls past) d a else None
         ])
-    by (Some t) = ap (λ (b : Bool). if b then Some t else None) (performs_by_rows past d t a)
-    by None = ap2 (λ (b : Bool) (o : Option ℕ). if b then o else None) (lives_by_rows s past d) (choice_thread_by_rows s past d a)
+    by (Some t) = ap (λ (b : Bool). if b then Some t else None) (performs_by_records past d t a)
+    by None = ap2 (λ (b : Bool) (o : Option ℕ). if b then o else None) (lives_by_records s past d) (choice_thread_by_records s past d a)
 
 -- ---- the thread of any act
 

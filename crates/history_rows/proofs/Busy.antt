@@ -1,4 +1,4 @@
--- A service thread that serves no call is idle, so the rows say each thread's service.
+-- A service thread that serves no call is idle, so the records say each thread's service.
 use Rattle.std.proofs.Common.{◌≡◌, refl, sym, ◌∙◌, ap, ℕ, suc, ◌≤◌, Bool, true, false, cond, ◌&&◌, List, [], ◌∷◌, Option, Some, None, arith, ◌==◌, ◌⊎◌, inl, inr, slice_get}
 use Rattle.std.specs.List.{find}
 use Rattle.std.proofs.lemmas.Bool.Decides.{nat_tests}
@@ -16,8 +16,8 @@ use Rattle.jx_base.specs.Basics.{passes}
 use Rattle.jx_base.specs.Histories.{Past, is_own}
 use Rattle.jx_model.specs.Threads.{service_threads, is_of_thread, served_call, served_after, thread_state, state_by_last, state_after, serving_state, last_of_thread, is_running_state}
 use Rattle.jx_model.specs.Permits.{is_choice, zero_may_now, domain_thread}
-use Rattle.jx_model.specs.Tables.{CallRow, call_rows, ThreadRow, thread_row, state_or_over}
-use Rattle.history_rows.proofs.Acting.{service_in, service_by_rows}
+use Rattle.jx_model.specs.Tables.{CallRecord, call_records, ThreadRecord, thread_record, state_or_over}
+use Rattle.history_rows.proofs.Acting.{service_in, service_by_records}
 use Rattle.history_rows.proofs.Freed.{served_service}
 use Rattle.jx_model.specs.Legal.{IsAdmittedPast}
 use Rattle.jx_base.proofs.BasicLaws.{ap2, both, eq_of}
@@ -108,7 +108,7 @@ idle_unless_serves s past d t k a h g =
     by None q = refl
     by (Some e) q = unstopped (thread.Idle k) e.act e.reply (unserving_runs s past d t e a h q)
 
--- ---- the service of a thread, by the rows
+-- ---- the service of a thread, by the records
 
 -- the service that a thread is idle for
 abbrev pub idle_service : ThreadState → Option ℕ
@@ -116,14 +116,14 @@ idle_service (thread.Idle k) = Some k.0
 idle_service _ = None
 
 -- the service of a service thread: that of the call that it serves, or the one that it is idle for
-abbrev pub service_by : List CallRow → ThreadRow → Option ℕ
-service_by calls row = elim row.serves [ Some c ↦ service_in calls c.0 | None ↦ idle_service row.state ]
+abbrev pub service_by : List CallRecord → ThreadRecord → Option ℕ
+service_by calls item = elim item.serves [ Some c ↦ service_in calls c.0 | None ↦ idle_service item.state ]
 
--- the rows say the service of a service thread
-pub thread_service_by_rows : (s : System) (past : Past) (d t : ℕ) (k : ServiceId) → IsAdmittedPast s past → slice_get (service_threads past d) t ≡ Some k → service_by (call_rows past) (thread_row past d (suc t)) ≡ Some k.0
-unfolding thread_row state_or_over
-thread_service_by_rows s past d t k a g = by (served_call past d (suc t)) refl
+-- the records say the service of a service thread
+pub thread_service_by_records : (s : System) (past : Past) (d t : ℕ) (k : ServiceId) → IsAdmittedPast s past → slice_get (service_threads past d) t ≡ Some k → service_by (call_records past) (thread_record past d (suc t)) ≡ Some k.0
+unfolding thread_record state_or_over
+thread_service_by_records s past d t k a g = by (served_call past d (suc t)) refl
   where
-    by : (o : Option CallId) → served_call past d (suc t) ≡ o → (elim o as (λ _. Option ℕ) [ Some c ↦ service_in (call_rows past) c.0 | None ↦ idle_service (state_or_over (thread_state past d (suc t))) ]) ≡ Some k.0
+    by : (o : Option CallId) → served_call past d (suc t) ≡ o → (elim o as (λ _. Option ℕ) [ Some c ↦ service_in (call_records past) c.0 | None ↦ idle_service (state_or_over (thread_state past d (suc t))) ]) ≡ Some k.0
     by None q = ap (λ (x : Option ThreadState). idle_service (state_or_over x)) (idle_unless_serves s past d t k a q g)
-    by (Some c) q = sym (service_by_rows past c.0) ∙ served_service s past d t c k a q g
+    by (Some c) q = sym (service_by_records past c.0) ∙ served_service s past d t c k a q g

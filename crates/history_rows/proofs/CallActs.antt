@@ -25,13 +25,13 @@ use Rattle.jx_model.specs.Calls.{Answer, is_call, calls_made, call_entry, first_
 use Rattle.jx_model.specs.Holding.{carried, carried_by, asked_objects, answer_objects}
 use Rattle.jx_model.specs.Permits.{acting_thread}
 use Rattle.jx_model.specs.Replies.{sent_back, ◌refuses◌else◌}
-use Rattle.jx_model.specs.Tables.{CallRow, call_row, call_rows}
+use Rattle.jx_model.specs.Tables.{CallRecord, call_record, call_records}
 use Rattle.jx_model.specs.Legal.{IsAdmittedPast}
 use Rattle.jx_base.proofs.BasicLaws.{ap2, ap3, both, and_true, and_false}
 use Rattle.jx_base.proofs.NthEntries.{nth_there, nth_passes, count_same, count_grows}
-use Rattle.history_rows.proofs.Rows.{not_that, is_that, rows_same, map_map, filter_behind, some_of, or_false}
+use Rattle.history_rows.proofs.Records.{not_that, is_that, records_same, map_map, filter_behind, some_of, or_false}
 use Rattle.history_rows.proofs.Stages.{StandsAt, live_caller_after, resumes, resumable_parts}
-use Rattle.history_rows.proofs.CallRows.{state_after_entry, carried_after, call_row_made, call_row_same, call_row_new, calls_same, calls_more, calls_one, unqueues, waiting_after, waiting_same, waiting_more}
+use Rattle.history_rows.proofs.CallRecords.{state_after_entry, carried_after, call_record_made, call_record_same, call_record_new, calls_same, calls_more, calls_one, unqueues, waiting_after, waiting_same, waiting_more}
 use Rattle.std.specs.Option.{option_and_then, option_map, unwrap_or}
 
 -- an entry by its parts
@@ -70,10 +70,10 @@ unfolding answered_by ends_server ends_domain
 unanswered_by past e c a n =
     ap2 (λ (o : Option Answer) (x : Option (ℕ × Reason)). elim o as (λ _. Option Answer) [ Some a ↦ Some a | None ↦ if ends_domain x (server_of past c) then Some Answer.Ended else None ]) a n
 
--- such an entry leaves all rows
-pub calls_untouched : (s : System) (e : Entry) (past : Past) → IsAdmittedPast s past → TouchesNoCall e → call_rows (e ∷ past) ≡ call_rows past
+-- such an entry leaves all records
+pub calls_untouched : (s : System) (e : Entry) (past : Past) → IsAdmittedPast s past → TouchesNoCall e → call_records (e ∷ past) ≡ call_records past
 calls_untouched s e past a h =
-    calls_same e past h.call (λ c l u. call_row_same e past c l u (h.take c) (unanswered_by past e c (h.answer c) h.ends) (h.resume c) (caller_lives_on s e past c a u h.ends))
+    calls_same e past h.call (λ c l u. call_record_same e past c l u (h.take c) (unanswered_by past e c (h.answer c) h.ends) (h.resume c) (caller_lives_on s e past c a u h.ends))
 
 -- and all waiting calls
 pub waiting_untouched : (e : Entry) (past : Past) → TouchesNoCall e → waiting_calls (e ∷ past) ≡ waiting_calls past
@@ -83,14 +83,14 @@ waiting_untouched e past h =
 -- ---- a call that is queued
 
 module _ (s : System) (past : Past) (admitted : IsAdmittedPast s past) (d t : ℕ) where
-  -- a queued call adds its row
+  -- a queued call adds its record
   pub calls_after_call : (k : ServiceId) (m : MethodId) (p : Parcel) (c : CallId) →
-      call_rows (entry d t (act.Call k m p) (reply.Queued c) ∷ past)
-      ≡ call_rows past ++ (record { caller = d; thread = t; service = k.0; state = call.Queued; carried = parcel_objects p }) ∷ []
+      call_records (entry d t (act.Call k m p) (reply.Queued c) ∷ past)
+      ≡ call_records past ++ (record { caller = d; thread = t; service = k.0; state = call.Queued; carried = parcel_objects p }) ∷ []
   unfolding is_call asked_by queued_as is_take_of is_resume_of answered_by answered_by_act ends_server ends_domain ended_by ended_by_act asked_objects
   calls_after_call k m p c =
-      calls_more (entry d t (act.Call k m p) (reply.Queued c)) past refl (λ n l u. call_row_same (entry d t (act.Call k m p) (reply.Queued c)) past n l u refl refl refl (caller_lives_on s (entry d t (act.Call k m p) (reply.Queued c)) past n admitted u refl))
-      ∙ ap (λ (x : CallRow). call_rows past ++ x ∷ []) (call_row_new (entry d t (act.Call k m p) (reply.Queued c)) past (record { service = k; method = m; parcel = p }) refl refl)
+      calls_more (entry d t (act.Call k m p) (reply.Queued c)) past refl (λ n l u. call_record_same (entry d t (act.Call k m p) (reply.Queued c)) past n l u refl refl refl (caller_lives_on s (entry d t (act.Call k m p) (reply.Queued c)) past n admitted u refl))
+      ∙ ap (λ (x : CallRecord). call_records past ++ x ∷ []) (call_record_new (entry d t (act.Call k m p) (reply.Queued c)) past (record { service = k; method = m; parcel = p }) refl refl)
 
   -- it waits behind all others
   pub waiting_after_call : (k : ServiceId) (m : MethodId) (p : Parcel) (c : CallId) →
@@ -102,17 +102,17 @@ module _ (s : System) (past : Past) (admitted : IsAdmittedPast s past) (d t : �
 
   -- a taken call runs, and carries nothing
   pub calls_after_take : (c : CallId) (r : Reply) (i : ℕ) → c.0 ≡ i + 1 → StandsAt past c.0 call.Queued →
-      call_rows (entry d t (act.Take c) r ∷ past) ≡ set (call_rows past) i (record (call_row past c.0) { state = call.Running; carried = [] })
-  unfolding is_call asked_by is_take_of is_resume_of answered_by answered_by_act ends_server ends_domain ended_by ended_by_act call_row
+      call_records (entry d t (act.Take c) r ∷ past) ≡ set (call_records past) i (record (call_record past c.0) { state = call.Running; carried = [] })
+  unfolding is_call asked_by is_take_of is_resume_of answered_by answered_by_act ends_server ends_domain ended_by ended_by_act call_record
   calls_after_take c r i e q =
       calls_one (entry d t (act.Take c) r) past c.0 i refl e q.high
-      (λ k a b n. call_row_same (entry d t (act.Take c) r) past k a b (not_that c.0 k n) refl refl (caller_lives_on s (entry d t (act.Take c) r) past k admitted b refl))
-      ∙ ap (set (call_rows past) i)
-      (call_row_made s (entry d t (act.Take c) r) past c.0 admitted q.low q.high (caller_lived s (entry d t (act.Take c) r) past c.0 admitted q.high)
-      ∙ ap2 (λ (x : Bool) (st : CallState). let row : CallRow = record (call_row past c.0) {
+      (λ k a b n. call_record_same (entry d t (act.Take c) r) past k a b (not_that c.0 k n) refl refl (caller_lives_on s (entry d t (act.Take c) r) past k admitted b refl))
+      ∙ ap (set (call_records past) i)
+      (call_record_made s (entry d t (act.Take c) r) past c.0 admitted q.low q.high (caller_lived s (entry d t (act.Take c) r) past c.0 admitted q.high)
+      ∙ ap2 (λ (x : Bool) (st : CallState). let item : CallRecord = record (call_record past c.0) {
         state = state_after_entry st x None false;
         carried = carried_after st (carried past c.0) x None (has_live_caller (entry d t (act.Take c) r ∷ past) c.0 && true);
-      } in row)
+      } in item)
       (is_that c.0 c.0 refl) q.state)
 
   -- it waits no more
@@ -134,21 +134,21 @@ pub record AnswersOne (past : Past) (e : Entry) (c : ℕ) (x : Answer) : Type 0 
 
 -- an answered call carries its answer's objects, where its caller lives
 pub calls_after_answer : (s : System) (past : Past) (e : Entry) (c i : ℕ) (x : Answer) → IsAdmittedPast s past → AnswersOne past e c x → c ≡ i + 1 → StandsAt past c call.Running →
-    call_rows (e ∷ past) ≡ set (call_rows past) i (record (call_row past c) { state = call.Answered (answer_kind x); carried = if has_live_caller past c then answer_objects (Some x) else [] })
-unfolding call_row
+    call_records (e ∷ past) ≡ set (call_records past) i (record (call_record past c) { state = call.Answered (answer_kind x); carried = if has_live_caller past c then answer_objects (Some x) else [] })
+unfolding call_record
 calls_after_answer s past e c i x a h q z =
-    calls_one e past c i h.call q z.high (λ k l u n. call_row_same e past k l u (h.take k) (h.others k n) (h.resume k) (caller_lives_on s e past k a u h.ends))
-    ∙ ap (set (call_rows past) i)
-    (call_row_made s e past c a z.low z.high (caller_lived s e past c a z.high)
-    ∙ ap3 (λ (t : Bool) (o : Option Answer) (r : Bool). let row : CallRow = record (call_row past c) {
+    calls_one e past c i h.call q z.high (λ k l u n. call_record_same e past k l u (h.take k) (h.others k n) (h.resume k) (caller_lives_on s e past k a u h.ends))
+    ∙ ap (set (call_records past) i)
+    (call_record_made s e past c a z.low z.high (caller_lived s e past c a z.high)
+    ∙ ap3 (λ (t : Bool) (o : Option Answer) (r : Bool). let item : CallRecord = record (call_record past c) {
       state = state_after_entry (call_state past c) t o r;
       carried = carried_after (call_state past c) (carried past c) t o (has_live_caller (e ∷ past) c && not r);
-    } in row)
+    } in item)
     (h.take c) h.answer (h.resume c)
-    ∙ ap2 (λ (st : CallState) (b : Bool). let row : CallRow = record (call_row past c) {
+    ∙ ap2 (λ (st : CallState) (b : Bool). let item : CallRecord = record (call_record past c) {
       state = state_after_entry st false (Some x) false;
       carried = carried_after st (carried past c) false (Some x) b;
-    } in row)
+    } in item)
     z.state (and_true (has_live_caller (e ∷ past) c) ∙ caller_lives_on s e past c a z.high h.ends))
 
 -- it leaves the waiting calls
@@ -232,19 +232,19 @@ resumes_answered s past d t c h =
 
 -- a call after which its caller went on carries nothing
 pub calls_after_resume : (s : System) (past : Past) (d t : ℕ) (c : CallId) (r : Reply) (i : ℕ) (k : AnswerKind) → IsAdmittedPast s past → c.0 ≡ i + 1 → StandsAt past c.0 (call.Answered k) →
-    call_rows (entry d t (act.Resume c) r ∷ past) ≡ set (call_rows past) i (record (call_row past c.0) { state = call.Resumed; carried = [] })
-unfolding is_call asked_by is_take_of is_resume_of answered_by answered_by_act ends_server ends_domain ended_by ended_by_act call_row
+    call_records (entry d t (act.Resume c) r ∷ past) ≡ set (call_records past) i (record (call_record past c.0) { state = call.Resumed; carried = [] })
+unfolding is_call asked_by is_take_of is_resume_of answered_by answered_by_act ends_server ends_domain ended_by ended_by_act call_record
 calls_after_resume s past d t c r i k a e q =
     calls_one (entry d t (act.Resume c) r) past c.0 i refl e q.high
-    (λ n l u z. call_row_same (entry d t (act.Resume c) r) past n l u refl refl (not_that c.0 n z) (caller_lives_on s (entry d t (act.Resume c) r) past n a u refl))
-    ∙ ap (set (call_rows past) i)
-    (call_row_made s (entry d t (act.Resume c) r) past c.0 a q.low q.high (caller_lived s (entry d t (act.Resume c) r) past c.0 a q.high)
-    ∙ ap2 (λ (x : Bool) (st : CallState). let row : CallRow = record (call_row past c.0) {
+    (λ n l u z. call_record_same (entry d t (act.Resume c) r) past n l u refl refl (not_that c.0 n z) (caller_lives_on s (entry d t (act.Resume c) r) past n a u refl))
+    ∙ ap (set (call_records past) i)
+    (call_record_made s (entry d t (act.Resume c) r) past c.0 a q.low q.high (caller_lived s (entry d t (act.Resume c) r) past c.0 a q.high)
+    ∙ ap2 (λ (x : Bool) (st : CallState). let item : CallRecord = record (call_record past c.0) {
       state = state_after_entry st false None x;
       carried = carried_after st (carried past c.0) false None (has_live_caller (entry d t (act.Resume c) r ∷ past) c.0 && not x);
-    } in row)
+    } in item)
     (is_that c.0 c.0 refl) q.state
-    ∙ ap (λ (b : Bool). let row : CallRow = record (call_row past c.0) { state = call.Resumed; carried = if b then carried past c.0 else [] } in row) (and_false (has_live_caller (entry d t (act.Resume c) r ∷ past) c.0)))
+    ∙ ap (λ (b : Bool). let item : CallRecord = record (call_record past c.0) { state = call.Resumed; carried = if b then carried past c.0 else [] } in item) (and_false (has_live_caller (entry d t (act.Resume c) r ∷ past) c.0)))
 
 -- it leaves the waiting calls
 pub waiting_after_resume : (past : Past) (d t : ℕ) (c : CallId) (r : Reply) → waiting_calls (entry d t (act.Resume c) r ∷ past) ≡ waiting_calls past
@@ -274,12 +274,12 @@ carried_after_end lost gone call.Queued old = if lost then [] else old
 carried_after_end lost gone (call.Answered k) old = if gone then [] else old
 carried_after_end lost gone _ old = []
 
--- a call's row after the end of domain d, by which services are that domain's
-abbrev pub ended_call : (ℕ → Bool) → ℕ → CallRow → CallRow
-ended_call lost d row =
-    record row {
-      state = state_after_end (lost row.service) row.state;
-      carried = carried_after_end (lost row.service) (row.caller == d) row.state row.carried;
+-- a call's record after the end of domain d, by which services are that domain's
+abbrev pub ended_call : (ℕ → Bool) → ℕ → CallRecord → CallRecord
+ended_call lost d item =
+    record item {
+      state = state_after_end (lost item.service) item.state;
+      carried = carried_after_end (lost item.service) (item.caller == d) item.state item.carried;
     }
 
 -- whether domain d owns the service
@@ -339,27 +339,27 @@ dead_carries past c k h l = by (is_some (call_entry past c)) (is_resumed past c)
     by m false None true false h l = cc
     by m false None false false h l = cc
 
--- the rows after the end of a domain
-pub calls_after_end : (s : System) (past : Past) (e : Entry) (d : ℕ) → IsAdmittedPast s past → EndsOne e d → call_rows (e ∷ past) ≡ map (ended_call (owned_by past d) d) (call_rows past)
-unfolding call_rows call_row answer_objects answer_kind
+-- the records after the end of a domain
+pub calls_after_end : (s : System) (past : Past) (e : Entry) (d : ℕ) → IsAdmittedPast s past → EndsOne e d → call_records (e ∷ past) ≡ map (ended_call (owned_by past d) d) (call_records past)
+unfolding call_records call_record answer_objects answer_kind
 calls_after_end s past e d a h =
-    ap (λ (n : ℕ). map (call_row (e ∷ past)) (up_to n)) (count_same is_call e past h.call)
-    ∙ rows_same (call_row (e ∷ past)) (λ c. ended_call (owned_by past d) d (call_row past c)) (calls_made past) (λ c l u.
-    call_row_made s e past c a l u (caller_lived s e past c a u)
-    ∙ ap3 (λ (t : Bool) (o : Option Answer) (r : Bool). let row : CallRow = record (call_row past c) {
+    ap (λ (n : ℕ). map (call_record (e ∷ past)) (up_to n)) (count_same is_call e past h.call)
+    ∙ records_same (call_record (e ∷ past)) (λ c. ended_call (owned_by past d) d (call_record past c)) (calls_made past) (λ c l u.
+    call_record_made s e past c a l u (caller_lived s e past c a u)
+    ∙ ap3 (λ (t : Bool) (o : Option Answer) (r : Bool). let item : CallRecord = record (call_record past c) {
       state = state_after_entry (call_state past c) t o r;
       carried = carried_after (call_state past c) (carried past c) t o (has_live_caller (e ∷ past) c && not r);
-    } in row)
+    } in item)
     (h.take c) (answer_at_end past e d c h l u) (h.resume c)
-    ∙ ap (λ (b : Bool). let row : CallRow = record (call_row past c) {
+    ∙ ap (λ (b : Bool). let item : CallRecord = record (call_record past c) {
       state = state_after_entry (call_state past c) false (if owned_by past d (unwrap_or (service_of_call past c) 0) then Some Answer.Ended else None) false;
       carried = carried_after (call_state past c) (carried past c) false (if owned_by past d (unwrap_or (service_of_call past c) 0) then Some Answer.Ended else None) b;
-    } in row)
+    } in item)
     (and_true (has_live_caller (e ∷ past) c) ∙ caller_at_end s past e d c a h l u)
-    ∙ ap2 (λ (x : CallState) (y : List ℕ). let row : CallRow = record (call_row past c) { state = x; carried = y } in row)
+    ∙ ap2 (λ (x : CallState) (y : List ℕ). let item : CallRecord = record (call_record past c) { state = x; carried = y } in item)
     (states (call_state past c) (owned_by past d (unwrap_or (service_of_call past c) 0)))
     (carries (call_state past c) (owned_by past d (unwrap_or (service_of_call past c) 0)) (unwrap_or (caller_of past c) 0 == d) (has_live_caller past c) (carried past c) (dead_carries past c)))
-    ∙ map_map (ended_call (owned_by past d) d) (call_row past) (up_to (calls_made past))
+    ∙ map_map (ended_call (owned_by past d) d) (call_record past) (up_to (calls_made past))
   where
     states : (x : CallState) (lost : Bool) → state_after_entry x false (if lost then Some Answer.Ended else None) false ≡ state_after_end lost x
     states call.Queued true = refl

@@ -1,4 +1,4 @@
--- The services' and the objects' rows after any entry, each from its row before.
+-- The services' and the objects' records after any entry, each from its record before.
 use Rattle.std.proofs.Common.{◌≡◌, refl, sym, ◌∙◌, ap, ℕ, suc, zero, ◌+◌, ◌≤◌, Bool, true, false, not, cond, ◌&&◌, ◌||◌, List, [], ◌∷◌, ◌++◌, map, replicate, Some, None, arith, ◌==◌, if◌then◌else◌, ◌⊎◌, inl, inr, filter, slice_get, set, append-nil}
 use Rattle.std.specs.List.{range_with_len}
 use Rattle.jx_base.specs.declared.act.Entry.{Entry}
@@ -10,30 +10,30 @@ use Rattle.jx_model.specs.Portals.{is_export, services_made, gives_portal, holds
 use Rattle.jx_model.specs.Calls.{ends_domain}
 use Rattle.jx_model.specs.MemoryObjects.{Part, objects_of, objects_made, ends_one_of, lineage_of}
 use Rattle.jx_model.specs.Holding.{received_objects, keeps_object, holds_object, holders}
-use Rattle.jx_model.specs.Tables.{ServiceRow, service_row, service_rows, ObjectRow, object_row, object_rows, CallRow, call_rows}
+use Rattle.jx_model.specs.Tables.{ServiceRecord, service_record, service_records, ObjectRecord, object_record, object_records, CallRecord, call_records}
 use Rattle.jx_model.specs.Legal.{IsNext, IsAdmittedPast}
 use Rattle.jx_base.proofs.BasicLaws.{ap2, ap3, eq_of}
 use Rattle.jx_base.proofs.NthEntries.{count_new, count_same}
-use Rattle.history_rows.proofs.Rows.{filter_range, filter_more, rows_same}
+use Rattle.history_rows.proofs.Records.{filter_range, filter_more, records_same}
 use Rattle.history_rows.proofs.Actors.{actor_live}
 use Rattle.history_rows.proofs.Holders.{holds_step, newborn_holds, contains_kept, gives_object, drops_object, objects_grow}
 use Rattle.history_rows.proofs.Parts.{valid_old}
-use Rattle.history_rows.proofs.Riding.{count_of, carries, riding_by_rows}
-use Rattle.history_rows.proofs.ObjectRows.{objects_split, objects_new, parts_made, new_object_row}
-use Rattle.history_rows.proofs.ServiceRows.{portal_holders, was_handed, portal_step, newborn_portals, services_changed}
+use Rattle.history_rows.proofs.Riding.{count_of, carries, riding_by_records}
+use Rattle.history_rows.proofs.ObjectRecords.{objects_split, objects_new, parts_made, new_object_record}
+use Rattle.history_rows.proofs.ServiceRecords.{portal_holders, was_handed, portal_step, newborn_portals, services_changed}
 
--- ---- rows that change each by its number
+-- ---- records that change each by its number
 
 -- each item changed by its number, counted from that one
 abbrev pub each_from : {A : Type 0} → (ℕ → A → A) → ℕ → List A → List A
 each_from f a [] = []
 each_from f a (x ∷ xs) = f a x ∷ each_from f (a + 1) xs
 
--- each row changed by its number
-abbrev pub each_row : {A : Type 0} → (ℕ → A → A) → List A → List A
-each_row f xs = each_from f 1 xs
+-- each record changed by its number
+abbrev pub each_record : {A : Type 0} → (ℕ → A → A) → List A → List A
+each_record f xs = each_from f 1 xs
 
--- the rows that a definition gives, each changed
+-- the records that a definition gives, each changed
 pub each_map : {A : Type 0} (f : ℕ → A → A) (g : ℕ → A) (a n : ℕ) → each_from f a (map g (range_with_len a n)) ≡ map (λ m. f m (g m)) (range_with_len a n)
 each_map f g a zero = refl
 each_map {A = A} f g a (suc n) = ap (λ (xs : List A). f a (g a) ∷ xs) (each_map f g (a + 1) n)
@@ -90,15 +90,15 @@ portals_every s e past k a =
     turn false true false g w h = refl
     turn false false false g w h = refl
 
--- the services' rows after any entry that makes no service
+-- the services' records after any entry that makes no service
 pub services_every : (s : System) (e : Entry) (past : Past) → IsAdmittedPast s (e ∷ past) → is_export e ≡ false →
-    service_rows (e ∷ past) ≡ each_row (λ k row. record row { holders = portals_after e (domains_made past) k row.holders }) (service_rows past)
-unfolding service_rows service_row up_to
+    service_records (e ∷ past) ≡ each_record (λ k item. record item { holders = portals_after e (domains_made past) k item.holders }) (service_records past)
+unfolding service_records service_record up_to
 services_every s e past a x =
     services_changed e past x
-    ∙ rows_same (λ k. let row : ServiceRow = record (service_row past k) { holders = portal_holders (e ∷ past) k } in row) (λ k. let row : ServiceRow = record (service_row past k) { holders = portals_after e (domains_made past) k (portal_holders past k) } in row) (services_made past)
-    (λ k l u. ap (λ (hs : List ℕ). let row : ServiceRow = record (service_row past k) { holders = hs } in row) (portals_every s e past k a))
-    ∙ sym (each_map (λ k (row : ServiceRow). record row { holders = portals_after e (domains_made past) k row.holders }) (service_row past) 1 (services_made past))
+    ∙ records_same (λ k. let item : ServiceRecord = record (service_record past k) { holders = portal_holders (e ∷ past) k } in item) (λ k. let item : ServiceRecord = record (service_record past k) { holders = portals_after e (domains_made past) k (portal_holders past k) } in item) (services_made past)
+    (λ k l u. ap (λ (hs : List ℕ). let item : ServiceRecord = record (service_record past k) { holders = hs } in item) (portals_every s e past k a))
+    ∙ sym (each_map (λ k (item : ServiceRecord). record item { holders = portals_after e (domains_made past) k item.holders }) (service_record past) 1 (services_made past))
 
 -- ---- objects
 
@@ -128,40 +128,40 @@ holders_every s e past m n h =
     turn false true false g false w h = refl
     turn false false false g r w h = refl
 
--- an old object's row after an entry, from its row, the parts and the new rows of the calls
-abbrev pub object_row_after : Entry → ℕ → List Part → List CallRow → ℕ → ObjectRow → ObjectRow
-object_row_after e n parts calls m row =
+-- an old object's record after an entry, from its record, the parts and the new records of the calls
+abbrev pub object_record_after : Entry → ℕ → List Part → List CallRecord → ℕ → ObjectRecord → ObjectRecord
+object_record_after e n parts calls m item =
     record {
-      valid = row.valid && not (ends_one_of (lineage_of parts m) e);
-      holders = holders_after e n m row.holders;
+      valid = item.valid && not (ends_one_of (lineage_of parts m) e);
+      holders = holders_after e n m item.holders;
       riding = count_of (carries m) calls;
     }
 
--- an old object's row after any entry
-pub object_row_every : (s : System) (e : Entry) (past : Past) (m : ℕ) → IsNext s past e → m ≤ objects_made past →
-    object_row (e ∷ past) m ≡ object_row_after e (domains_made past) (objects_of past) (call_rows (e ∷ past)) m (object_row past m)
-unfolding object_row
-object_row_every s e past m n h =
-    ap3 (λ (v : Bool) (hs : List ℕ) (r : ℕ). let row : ObjectRow = record { valid = v; holders = hs; riding = r } in row) (valid_old e past m h) (holders_every s e past m n h) (riding_by_rows (e ∷ past) m)
+-- an old object's record after any entry
+pub object_record_every : (s : System) (e : Entry) (past : Past) (m : ℕ) → IsNext s past e → m ≤ objects_made past →
+    object_record (e ∷ past) m ≡ object_record_after e (domains_made past) (objects_of past) (call_records (e ∷ past)) m (object_record past m)
+unfolding object_record
+object_record_every s e past m n h =
+    ap3 (λ (v : Bool) (hs : List ℕ) (r : ℕ). let item : ObjectRecord = record { valid = v; holders = hs; riding = r } in item) (valid_old e past m h) (holders_every s e past m n h) (riding_by_records (e ∷ past) m)
 
 old_objects : (s : System) (e : Entry) (past : Past) → IsNext s past e →
-    map (object_row (e ∷ past)) (up_to (objects_made past)) ≡ each_row (object_row_after e (domains_made past) (objects_of past) (call_rows (e ∷ past))) (object_rows past)
-unfolding object_rows up_to
+    map (object_record (e ∷ past)) (up_to (objects_made past)) ≡ each_record (object_record_after e (domains_made past) (objects_of past) (call_records (e ∷ past))) (object_records past)
+unfolding object_records up_to
 old_objects s e past n =
-    rows_same (object_row (e ∷ past)) (λ m. object_row_after e (domains_made past) (objects_of past) (call_rows (e ∷ past)) m (object_row past m)) (objects_made past) (λ m l u. object_row_every s e past m n u)
-    ∙ sym (each_map (object_row_after e (domains_made past) (objects_of past) (call_rows (e ∷ past))) (object_row past) 1 (objects_made past))
+    records_same (object_record (e ∷ past)) (λ m. object_record_after e (domains_made past) (objects_of past) (call_records (e ∷ past)) m (object_record past m)) (objects_made past) (λ m l u. object_record_every s e past m n u)
+    ∙ sym (each_map (object_record_after e (domains_made past) (objects_of past) (call_records (e ∷ past))) (object_record past) 1 (objects_made past))
 
--- the objects' rows after any entry that makes none
+-- the objects' records after any entry that makes none
 pub objects_every : (s : System) (e : Entry) (past : Past) → IsNext s past e → parts_made e past ≡ 0 →
-    object_rows (e ∷ past) ≡ each_row (object_row_after e (domains_made past) (objects_of past) (call_rows (e ∷ past))) (object_rows past)
+    object_records (e ∷ past) ≡ each_record (object_record_after e (domains_made past) (objects_of past) (call_records (e ∷ past))) (object_records past)
 objects_every s e past n z =
     objects_split e past
-    ∙ ap (λ (k : ℕ). map (object_row (e ∷ past)) (up_to (objects_made past)) ++ map (object_row (e ∷ past)) (range_with_len (objects_made past + 1) k)) z
+    ∙ ap (λ (k : ℕ). map (object_record (e ∷ past)) (up_to (objects_made past)) ++ map (object_record (e ∷ past)) (range_with_len (objects_made past + 1) k)) z
     ∙ append-nil _
     ∙ old_objects s e past n
 
 -- and after one that makes some
 pub objects_every_new : (s : System) (e : Entry) (past : Past) → IsAdmittedPast s (e ∷ past) → is_birth e ≡ false → ended_by e ≡ None → is_live past e.domain.0 ≡ true →
-    object_rows (e ∷ past) ≡ each_row (object_row_after e (domains_made past) (objects_of past) (call_rows (e ∷ past))) (object_rows past) ++ replicate (parts_made e past) (new_object_row e.domain.0)
+    object_records (e ∷ past) ≡ each_record (object_record_after e (domains_made past) (objects_of past) (call_records (e ∷ past))) (object_records past) ++ replicate (parts_made e past) (new_object_record e.domain.0)
 objects_every_new s e past a b z v =
-    objects_split e past ∙ ap2 (λ (xs ys : List ObjectRow). xs ++ ys) (old_objects s e past a.0) (objects_new s e past a b z v)
+    objects_split e past ∙ ap2 (λ (xs ys : List ObjectRecord). xs ++ ys) (old_objects s e past a.0) (objects_new s e past a b z v)

@@ -1,4 +1,4 @@
--- Holders as flags of a fixed width: one flag a domain number, made or not, so that a birth changes no row.
+-- Holders as flags of a fixed width: one flag a domain number, made or not, so that a birth changes no record.
 use Rattle.std.proofs.Common.{◌≡◌, refl, sym, ◌∙◌, ap, ℕ, ◌<◌, ◌≤◌, Bool, true, false, not, ◌&&◌, ◌||◌, List, ◌∷◌, map, Some, arith, ◌==◌, if◌then◌else◌, ◌⊎◌, inl, inr}
 use Rattle.std.specs.Prelude.{nat_le}
 use Rattle.std.proofs.lemmas.Bool.Decides.{nat_tests}
@@ -13,11 +13,11 @@ use Rattle.jx_model.specs.MemoryObjects.{objects_made}
 use Rattle.jx_model.specs.Holding.{received_objects, keeps_object, holds_object}
 use Rattle.jx_model.specs.Legal.{IsNext, IsAdmittedPast}
 use Rattle.jx_base.proofs.BasicLaws.{ap2, and_false, eq_of}
-use Rattle.history_rows.proofs.Rows.{map_range}
+use Rattle.history_rows.proofs.Records.{map_range}
 use Rattle.history_rows.proofs.Actors.{actor_live, unmade_acts}
 use Rattle.history_rows.proofs.Holders.{holds_step, newborn_holds, unmade_keeps, gives_object, drops_object, objects_grow}
-use Rattle.history_rows.proofs.ServiceRows.{was_handed, portal_step, newborn_portals, unmade_handed}
-use Rattle.history_rows.proofs.Every.{each_row, each_map}
+use Rattle.history_rows.proofs.ServiceRecords.{was_handed, portal_step, newborn_portals, unmade_handed}
+use Rattle.history_rows.proofs.Every.{each_record, each_map}
 
 at_most : (x y : ℕ) → nat_le x y ≡ true → x ≤ y
 at_most x y q = grind (arith, nat_tests)
@@ -73,7 +73,7 @@ abbrev pub holder_flags : Past → ℕ → ℕ → List Bool
 holder_flags past width m = map (λ d. holds_object past d m) (up_to width)
 
 -- each flag after an entry comes from that flag alone
-pub flags_every : (s : System) (e : Entry) (past : Past) (width m : ℕ) → IsNext s past e → m ≤ objects_made past → holder_flags (e ∷ past) width m ≡ each_row (held_after e m) (holder_flags past width m)
+pub flags_every : (s : System) (e : Entry) (past : Past) (width m : ℕ) → IsNext s past e → m ≤ objects_made past → holder_flags (e ∷ past) width m ≡ each_record (held_after e m) (holder_flags past width m)
 unfolding up_to
 flags_every s e past width m n h =
     map_range (λ d. holds_object (e ∷ past) d m) (λ d. held_after e m d (holds_object past d m)) 1 width (λ d l u. holds_every s e past d m n l h)
@@ -114,7 +114,7 @@ abbrev pub portal_flags : Past → ℕ → ℕ → List Bool
 portal_flags past width k = map (λ d. holds_portal past d k) (up_to width)
 
 -- each flag after an entry comes from that flag alone, also for a service that the entry makes
-pub portal_flags_every : (s : System) (e : Entry) (past : Past) (width k : ℕ) → IsAdmittedPast s (e ∷ past) → portal_flags (e ∷ past) width k ≡ each_row (portal_after e k) (portal_flags past width k)
+pub portal_flags_every : (s : System) (e : Entry) (past : Past) (width k : ℕ) → IsAdmittedPast s (e ∷ past) → portal_flags (e ∷ past) width k ≡ each_record (portal_after e k) (portal_flags past width k)
 unfolding up_to
 portal_flags_every s e past width k a =
     map_range (λ d. holds_portal (e ∷ past) d k) (λ d. portal_after e k d (holds_portal past d k)) 1 width (λ d l u. portal_every s e past d k a l)

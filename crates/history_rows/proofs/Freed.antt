@@ -22,13 +22,13 @@ use Rattle.jx_model.specs.MemoryObjects.{extents_made, is_allocation}
 use Rattle.jx_model.specs.Holding.{is_extent_in_use}
 use Rattle.jx_model.specs.Granules.{Run, run_if, heap_run, extent_run, lies_in, lies_in_one, is_used_granule}
 use Rattle.jx_model.specs.Permits.{acting_thread, is_halt, zero_may, choice_thread, taking_thread, idle_thread, is_idle_for, is_head, domain_thread, may_perform, is_zero_act, is_choice}
-use Rattle.jx_model.specs.Tables.{granule_row}
+use Rattle.jx_model.specs.Tables.{granule_flags}
 use Rattle.jx_model.specs.Legal.{IsAdmittedPast}
 use Rattle.jx_base.proofs.BasicLaws.{ap2, both, eq_of}
 use Rattle.jx_model.proofs.Acting.{where_passes, acting_within}
 use Rattle.jx_model.proofs.CallSteps.{service_made}
 use Rattle.jx_model.proofs.Serving.{in_domain, of_none, served, served_before, take_at}
-use Rattle.history_rows.proofs.Rows.{any_append, any_at, any_found}
+use Rattle.history_rows.proofs.Records.{any_append, any_at, any_found}
 use Rattle.history_rows.proofs.Actors.{live_made}
 use Rattle.history_rows.proofs.Absent.{absent}
 use Rattle.history_rows.proofs.InUse.{in_use_made}
@@ -57,7 +57,7 @@ both_true x y p q = rw (p, q) refl
 
 -- where an entry makes nothing, its freed runs are free and all else stays
 pub granules_after_freeing : (s : System) (e : Entry) (past : Past) → IsAdmittedPast s (e ∷ past) → is_birth e ≡ false → is_allocation e ≡ false →
-    granule_row s (e ∷ past) ≡ map (λ g. is_used_granule s past g && not (lies_in_one (freed_runs s e past) g)) (range_with_len 0 (granule_limit s))
+    granule_flags s (e ∷ past) ≡ map (λ g. is_used_granule s past g && not (lies_in_one (freed_runs s e past) g)) (range_with_len 0 (granule_limit s))
 unfolding lies_in_one up_to
 granules_after_freeing s e past a b x = granules_freed s e past (freed_runs s e past) a b x all only
   where

@@ -26,16 +26,16 @@ use Rattle.jx_model.specs.Legal.{IsNext, IsAdmittedPast}
 use Rattle.jx_base.proofs.BasicLaws.{ap2, ap3, both, eq_of}
 use Rattle.jx_model.proofs.CallSteps.{answer_made, resumed_made, asked_made}
 use Rattle.jx_model.proofs.Serving.{take_at}
-use Rattle.history_rows.proofs.CallRows.{unqueues, queued_made}
+use Rattle.history_rows.proofs.CallRecords.{unqueues, queued_made}
 use Rattle.history_rows.proofs.CallActs.{caller_lives_on, running_not_queued}
 use Rattle.history_rows.proofs.Stages.{returns_running, throws_running}
-use Rattle.history_rows.proofs.Rows.{or_false, is_that, not_that}
+use Rattle.history_rows.proofs.Records.{or_false, is_that, not_that}
 use Rattle.history_rows.proofs.Actors.{live_made, acts_live}
 use Rattle.history_rows.proofs.Holders.{holds_step, gives_object, drops_object, objects_grow}
 use Rattle.history_rows.proofs.Parts.{PartSource, NewExtent, OfObject, part_old, part_new, part_made, part_source, valid_old, valid_new, valid_same, with_done}
 use Rattle.history_rows.proofs.Uses.{Use, ByDomain, ByCall}
 use Rattle.history_rows.proofs.Given.{new_numbers}
-use Rattle.history_rows.proofs.ObjectRows.{parts_made, makes_gives, contains_range}
+use Rattle.history_rows.proofs.ObjectRecords.{parts_made, makes_gives, contains_range}
 use Rattle.history_rows.proofs.InUse.{IsUsedBy, used_by, in_use, holder_lives, carrier_made}
 use Rattle.std.specs.Option.{option_and_then}
 

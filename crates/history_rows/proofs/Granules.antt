@@ -22,11 +22,11 @@ use Rattle.jx_model.specs.MemoryObjects.{is_allocation, makes_extent, extents_ma
 use Rattle.jx_model.specs.Holding.{is_extent_in_use}
 use Rattle.jx_model.specs.Granules.{Run, run_if, heap_run, heap_runs, heap_granules, extent_run, extent_runs, extent_granules, used_runs, lies_in, lies_in_one, is_used_granule, is_free_run, least_free, first_fit}
 use Rattle.jx_model.specs.Replies.{reply_to, new_object, new_domain, spawned, allocated, given_or, ◌refuses◌else◌}
-use Rattle.jx_model.specs.Tables.{granule_row}
+use Rattle.jx_model.specs.Tables.{granule_flags}
 use Rattle.jx_model.specs.Legal.{IsNext, IsAdmittedPast}
 use Rattle.jx_base.proofs.BasicLaws.{ap2, both}
 use Rattle.jx_base.proofs.NthEntries.{nth_new, nth_old, count_new, count_same}
-use Rattle.history_rows.proofs.Rows.{same_or_not, any_append, any_at, any_found, map_range}
+use Rattle.history_rows.proofs.Records.{same_or_not, any_append, any_at, any_found, map_range}
 use Rattle.history_rows.proofs.Actors.{IsMade, live_made}
 use Rattle.history_rows.proofs.Stages.{live_after}
 use Rattle.history_rows.proofs.InUse.{in_use_before, in_use_made}
@@ -362,8 +362,8 @@ granule_stays s e past o g a h u = owned_is_used s (e ∷ past) o g a (record { 
 
 -- where an entry frees nothing and makes nothing, all granules stay
 pub granules_same : (s : System) (e : Entry) (past : Past) → IsAdmittedPast s (e ∷ past) → ((o : Owner) → is_owner_used past o ≡ true → is_owner_used (e ∷ past) o ≡ true) → is_birth e ≡ false → is_allocation e ≡ false →
-    granule_row s (e ∷ past) ≡ granule_row s past
-unfolding granule_row
+    granule_flags s (e ∷ past) ≡ granule_flags s past
+unfolding granule_flags
 granules_same s e past a keeps b x = map_range (is_used_granule s (e ∷ past)) (is_used_granule s past) 0 (granule_limit s) (λ g l u. equal (is_used_granule s (e ∷ past) g) (is_used_granule s past g) (back g) (forth g))
   where
     equal : (p q : Bool) → (p ≡ true → q ≡ true) → (q ≡ true → p ≡ true) → p ≡ q
@@ -387,8 +387,8 @@ granules_same s e past a keeps b x = map_range (is_used_granule s (e ∷ past)) 
 
 -- where an entry makes what takes a run and frees nothing, the granules of the run are taken more
 pub granules_taken : (s : System) (e : Entry) (past : Past) (n : Owner) → IsAdmittedPast s (e ∷ past) → ((o : Owner) → is_owner_used past o ≡ true → is_owner_used (e ∷ past) o ≡ true) → IsNewOwner e past n → is_owner_used (e ∷ past) n ≡ true →
-    granule_row s (e ∷ past) ≡ map (λ g. is_used_granule s past g || lies_in g (run_of s (e ∷ past) n)) (range_with_len 0 (granule_limit s))
-unfolding granule_row
+    granule_flags s (e ∷ past) ≡ map (λ g. is_used_granule s past g || lies_in g (run_of s (e ∷ past) n)) (range_with_len 0 (granule_limit s))
+unfolding granule_flags
 granules_taken s e past n a keeps w v =
     map_range (is_used_granule s (e ∷ past)) (λ g. is_used_granule s past g || lies_in g (run_of s (e ∷ past) n)) 0 (granule_limit s)
     (λ g l u. equal (is_used_granule s (e ∷ past) g) (is_used_granule s past g) (lies_in g (run_of s (e ∷ past) n)) (back g) (forth g) (new g))
@@ -420,8 +420,8 @@ granules_taken s e past n a keeps w v =
 pub granules_freed : (s : System) (e : Entry) (past : Past) (freed : List Run) → IsAdmittedPast s (e ∷ past) → is_birth e ≡ false → is_allocation e ≡ false →
     ((o : Owner) (g : ℕ) → Holds s past o g → is_owner_used (e ∷ past) o ≡ false → lies_in_one freed g ≡ true) →
     ((g : ℕ) → lies_in_one freed g ≡ true → (o : Owner) × Holds s past o g × (is_owner_used (e ∷ past) o ≡ false)) →
-    granule_row s (e ∷ past) ≡ map (λ g. is_used_granule s past g && not (lies_in_one freed g)) (range_with_len 0 (granule_limit s))
-unfolding granule_row
+    granule_flags s (e ∷ past) ≡ map (λ g. is_used_granule s past g && not (lies_in_one freed g)) (range_with_len 0 (granule_limit s))
+unfolding granule_flags
 granules_freed s e past freed a b x all only =
     map_range (is_used_granule s (e ∷ past)) (λ g. is_used_granule s past g && not (lies_in_one freed g)) 0 (granule_limit s)
     (λ g l u. equal (is_used_granule s (e ∷ past) g) (is_used_granule s past g) (lies_in_one freed g) (back g) (forth g) (gone g))

@@ -16,7 +16,7 @@ use Rattle.jx_model.specs.Legal.{IsNext}
 use Rattle.jx_base.proofs.BasicLaws.{ap2, ap3, eq_of, and_true, and_false}
 use Rattle.jx_base.proofs.NthEntries.{count_new, count_same}
 use Rattle.jx_model.proofs.Refusals.{keeps_guarded}
-use Rattle.history_rows.proofs.Rows.{not_that, is_that, same_or_not, filter_same, filter_more, filter_twice}
+use Rattle.history_rows.proofs.Records.{not_that, is_that, same_or_not, filter_same, filter_more, filter_twice}
 use Rattle.history_rows.proofs.Actors.{IsMade, made_is, is_made_at, made_stays, unmade_acts, actor_live}
 use Rattle.history_rows.proofs.Stages.{live_after}
 

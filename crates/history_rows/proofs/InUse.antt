@@ -13,7 +13,7 @@ use Rattle.jx_model.specs.MemoryObjects.{Part, objects_made, object_part, extent
 use Rattle.jx_model.specs.Holding.{keeps_object, holds_object, holders, carried, riders, riding_count, hold_count, is_of_extent, is_extent_in_use}
 use Rattle.jx_model.specs.Legal.{IsAdmittedPast}
 use Rattle.jx_base.proofs.BasicLaws.{both, eq_of, passed}
-use Rattle.history_rows.proofs.Rows.{any_at, any_found, is_that}
+use Rattle.history_rows.proofs.Records.{any_at, any_found, is_that}
 use Rattle.history_rows.proofs.Actors.{live_made}
 use Rattle.history_rows.proofs.Holders.{holder_is, contains_kept}
 use Rattle.history_rows.proofs.Uses.{Use, ByDomain, ByCall, use_before, carried_none}

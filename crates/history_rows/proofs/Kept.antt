@@ -17,17 +17,17 @@ use Rattle.jx_model.specs.Calls.{is_call, asked_by, queued_as, is_take_of, is_re
 use Rattle.jx_model.specs.MemoryObjects.{Part, objects_of, new_parts, extents_made, is_allocation, makes_extent, ended_object}
 use Rattle.jx_model.specs.Holding.{received_objects, objects_in, is_drop_of}
 use Rattle.jx_model.specs.Replies.{reply_to}
-use Rattle.jx_model.specs.Tables.{Kept, StandsFor, ThreadRow, domain_rows, service_rows, named_service, call_rows, object_rows, extent_rows, granule_row}
+use Rattle.jx_model.specs.Tables.{Kept, StandsFor, ThreadRecord, domain_records, service_records, named_service, call_records, object_records, extent_records, granule_flags}
 use Rattle.jx_model.specs.Legal.{IsNext, IsAdmittedPast}
 use Rattle.jx_base.proofs.BasicLaws.{ap2, and_false}
-use Rattle.history_rows.proofs.DomainRows.{domains_same}
+use Rattle.history_rows.proofs.DomainRecords.{domains_same}
 use Rattle.history_rows.proofs.ThreadTable.{thread_table}
 use Rattle.history_rows.proofs.CallActs.{TouchesNoCall, calls_untouched, waiting_untouched}
 use Rattle.history_rows.proofs.Holders.{gives_object, drops_object}
-use Rattle.history_rows.proofs.ObjectRows.{objects_same, object_row_same}
-use Rattle.history_rows.proofs.ServiceRows.{services_kept, portal_holders_same, name_same}
-use Rattle.history_rows.proofs.ByteRows.{writes}
-use Rattle.history_rows.proofs.ExtentRows.{extents_untouched, granules_untouched}
+use Rattle.history_rows.proofs.ObjectRecords.{objects_same, object_record_same}
+use Rattle.history_rows.proofs.ServiceRecords.{services_kept, portal_holders_same, name_same}
+use Rattle.history_rows.proofs.ByteRecords.{writes}
+use Rattle.history_rows.proofs.ExtentRecords.{extents_untouched, granules_untouched}
 
 -- ---- what an entry doesn't do
 
@@ -78,11 +78,11 @@ module _ (s : System) (k : Kept) (e : Entry) (h : StandsFor s k) (n : IsNext s k
   admitted = (n, h.admitted)
 
   -- the domains
-  pub keeps_domains : LeavesLife e → k.domains ≡ domain_rows s (e ∷ k.past)
+  pub keeps_domains : LeavesLife e → k.domains ≡ domain_records s (e ∷ k.past)
   keeps_domains l = h.domains ∙ sym (domains_same s k.past e l.birth l.ends)
 
   -- the services
-  pub keeps_services : LeavesServices e → ended_by e ≡ None → k.services ≡ service_rows (e ∷ k.past)
+  pub keeps_services : LeavesServices e → ended_by e ≡ None → k.services ≡ service_records (e ∷ k.past)
   keeps_services v z = h.services ∙ sym (services_kept e k.past v.export (λ j l u. portal_holders_same s e k.past j admitted z (λ d. no_portal e v d j)))
 
   -- the names
@@ -90,7 +90,7 @@ module _ (s : System) (k : Kept) (e : Entry) (h : StandsFor s k) (n : IsNext s k
   keeps_names b z name = h.names name ∙ sym (name_same s e k.past name h.admitted (b name) z)
 
   -- the calls
-  pub keeps_calls : TouchesNoCall e → k.calls ≡ call_rows (e ∷ k.past)
+  pub keeps_calls : TouchesNoCall e → k.calls ≡ call_records (e ∷ k.past)
   keeps_calls c = h.calls ∙ sym (calls_untouched s e k.past h.admitted c)
 
   -- the waiting calls
@@ -103,16 +103,16 @@ module _ (s : System) (k : Kept) (e : Entry) (h : StandsFor s k) (n : IsNext s k
   keeps_parts p = h.parts ∙ sym (ap (λ (xs : List Part). objects_of k.past ++ xs) p ∙ append-nil _)
 
   -- the objects
-  pub keeps_objects : LeavesObjects k.past e → TouchesNoCall e → k.objects ≡ object_rows (e ∷ k.past)
+  pub keeps_objects : LeavesObjects k.past e → TouchesNoCall e → k.objects ≡ object_records (e ∷ k.past)
   keeps_objects o c =
-      h.objects ∙ sym (objects_same e k.past o.parts (λ m l u. object_row_same s e k.past m n u o.ending c.ends (λ d. no_gift k.past e o d m) (λ d. no_drop e o.drop d m) (calls_untouched s e k.past h.admitted c)))
+      h.objects ∙ sym (objects_same e k.past o.parts (λ m l u. object_record_same s e k.past m n u o.ending c.ends (λ d. no_gift k.past e o d m) (λ d. no_drop e o.drop d m) (calls_untouched s e k.past h.admitted c)))
 
   -- the extents
-  pub keeps_extents : is_allocation e ≡ false → ended_by e ≡ None → ((m : ℕ) → (is_done e.reply && is_drop_of m e.act) ≡ false) → (is_done e.reply && writes e.act) ≡ false → k.extents ≡ extent_rows (e ∷ k.past)
+  pub keeps_extents : is_allocation e ≡ false → ended_by e ≡ None → ((m : ℕ) → (is_done e.reply && is_drop_of m e.act) ≡ false) → (is_done e.reply && writes e.act) ≡ false → k.extents ≡ extent_records (e ∷ k.past)
   keeps_extents b z d w = h.extents ∙ sym (extents_untouched s e k.past admitted b z (no_drop e d) w)
 
   -- the granules
-  pub keeps_taken : LeavesLife e → is_allocation e ≡ false → ((m : ℕ) → (is_done e.reply && is_drop_of m e.act) ≡ false) → k.taken ≡ granule_row s (e ∷ k.past)
+  pub keeps_taken : LeavesLife e → is_allocation e ≡ false → ((m : ℕ) → (is_done e.reply && is_drop_of m e.act) ≡ false) → k.taken ≡ granule_flags s (e ∷ k.past)
   keeps_taken l b d = h.taken ∙ sym (granules_untouched s e k.past admitted l.ends (no_drop e d) l.birth b)
 
 -- an entry that does nothing but to its thread
@@ -124,7 +124,7 @@ pub record IsPlain (past : Past) (e : Entry) : Type 0 where
   pub unwritten : (is_done e.reply && writes e.act) ≡ false
 
 -- it leaves all that is kept, but for the threads
-pub stands_after_plain : (s : System) (k : Kept) (e : Entry) (threads : List (List ThreadRow)) → StandsFor s k → IsNext s k.past e → IsPlain k.past e → threads ≡ thread_table (e ∷ k.past) →
+pub stands_after_plain : (s : System) (k : Kept) (e : Entry) (threads : List (List ThreadRecord)) → StandsFor s k → IsNext s k.past e → IsPlain k.past e → threads ≡ thread_table (e ∷ k.past) →
     StandsFor s (record k { past = e ∷ k.past; threads = threads })
 stands_after_plain s k e threads h n p t =
     record {

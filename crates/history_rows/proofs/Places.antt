@@ -1,4 +1,4 @@
--- The place in the history of the entry with a number, so that a row can name its entry.
+-- The place in the history of the entry with a number, so that a record can name its entry.
 use Rattle.std.proofs.Common.{◌≡◌, refl, sym, ◌∙◌, ap, ℕ, ◌+◌, ◌<◌, Bool, true, false, ◌&&◌, List, [], ◌∷◌, ◌++◌, length, reverse, Option, Some, None, arith, ◌==◌, slice_get}
 use Rattle.std.proofs.lemmas.List.{length-reverse, reverse-append}
 use Rattle.jx_base.specs.declared.act.Entry.{Entry}

@@ -12,7 +12,7 @@ use Rattle.jx_model.specs.Permits.{is_choice}
 use Rattle.jx_model.specs.Replies.{reply_to}
 use Rattle.jx_model.specs.Tables.{Kept, StandsFor}
 use Rattle.jx_model.specs.Legal.{IsNext}
-use Rattle.history_rows.proofs.ThreadRows.{thread_row_after, service_of_thread, leaves_thread}
+use Rattle.history_rows.proofs.ThreadRecords.{thread_record_after, service_of_thread, leaves_thread}
 use Rattle.history_rows.proofs.ThreadActs.{own_changed, threads_stepped, threads_left}
 use Rattle.history_rows.proofs.CallActs.{entry}
 use Rattle.history_rows.proofs.Kept.{IsPlain, stands_after_plain, plain_act, plain_lookup, plain_refusal, is_plain_act, touches_calls}
@@ -22,13 +22,13 @@ unfolding new_threads
 adds_no_threads (act.Export iface k) r h = cc
 adds_no_threads _ r h = refl
 
--- a print, go, size, get, yield or end of a thread, a quiet or a halt changes the row of its thread alone
+-- a print, go, size, get, yield or end of a thread, a quiet or a halt changes the record of its thread alone
 pub stands_after_plain_act : (s : System) (k : Kept) (d t : ℕ) (a : Act) (r : Reply) → StandsFor s k → IsNext s k.past (entry d t a r) → is_plain_act a ≡ true →
-    StandsFor s (record k { past = entry d t a r ∷ k.past; threads = own_changed d t (λ row. thread_row_after (service_of_thread k.past d t) row a r) k.threads })
+    StandsFor s (record k { past = entry d t a r ∷ k.past; threads = own_changed d t (λ item. thread_record_after (service_of_thread k.past d t) item a r) k.threads })
 stands_after_plain_act s k d t a r h n p =
     let q : IsPlain k.past (entry d t a r) = plain_act k.past d t a r p in
     stands_after_plain s k (entry d t a r) _ h n q
-    (ap (own_changed d t (λ row. thread_row_after (service_of_thread k.past d t) row a r)) h.threads ∙ sym (threads_stepped s k.past (entry d t a r) n q.life.birth (adds_no_threads a r p)))
+    (ap (own_changed d t (λ item. thread_record_after (service_of_thread k.past d t) item a r)) h.threads ∙ sym (threads_stepped s k.past (entry d t a r) n q.life.birth (adds_no_threads a r p)))
 
 -- one that leaves its thread running changes nothing
 pub stands_after_reading : (s : System) (k : Kept) (d t : ℕ) (a : Act) (r : Reply) → StandsFor s k → IsNext s k.past (entry d t a r) → is_plain_act a ≡ true → is_choice a ≡ false → leaves_thread a r ≡ true →

@@ -11,19 +11,19 @@ use Rattle.jx_model.specs.Domains.{is_live}
 use Rattle.jx_model.specs.Calls.{calls_made}
 use Rattle.jx_model.specs.MemoryObjects.{objects_made}
 use Rattle.jx_model.specs.Holding.{holds_object, keeps_object, carried, riders, riding_count}
-use Rattle.jx_model.specs.Tables.{CallRow, call_row, call_rows}
+use Rattle.jx_model.specs.Tables.{CallRecord, call_record, call_records}
 use Rattle.jx_model.specs.Legal.{IsAdmittedPast}
-use Rattle.history_rows.proofs.Rows.{one_if, filter_none}
+use Rattle.history_rows.proofs.Records.{one_if, filter_none}
 use Rattle.history_rows.proofs.Holders.{keeps_none, objects_grow}
 use Rattle.history_rows.proofs.Uses.{Use, ByDomain, ByCall, carried_use}
 use Rattle.history_rows.proofs.InUse.{carrier_made}
 use Rattle.jx_base.proofs.BasicLaws.{both}
 
--- ---- by the rows of the calls
+-- ---- by the records of the calls
 
--- whether a call's row carries the object
-abbrev pub carries : ℕ → CallRow → Bool
-carries m row = contains_number row.carried m
+-- whether a call's record carries the object
+abbrev pub carries : ℕ → CallRecord → Bool
+carries m item = contains_number item.carried m
 
 -- how many items pass
 abbrev pub count_of : {A : Type 0} → (A → Bool) → List A → ℕ
@@ -37,12 +37,12 @@ count_map {A = A} {B = B} p f (x ∷ xs) = by (p (f x)) (filter p (map f xs)) (f
     by true ys zs h = omega (arith, h)
     by false ys zs h = h
 
--- as many calls carry an object as rows do
-pub riding_by_rows : (past : Past) (m : ℕ) → riding_count past m ≡ count_of (carries m) (call_rows past)
-unfolding riding_count riders call_rows call_row
-riding_by_rows past m = sym (count_map (carries m) (call_row past) (up_to (calls_made past)))
+-- as many calls carry an object as records do
+pub riding_by_records : (past : Past) (m : ℕ) → riding_count past m ≡ count_of (carries m) (call_records past)
+unfolding riding_count riders call_records call_record
+riding_by_records past m = sym (count_map (carries m) (call_record past) (up_to (calls_made past)))
 
--- a row more
+-- a record more
 pub count_more : {A : Type 0} (p : A → Bool) (xs : List A) (x : A) → count_of p (xs ++ x ∷ []) ≡ count_of p xs + one_if (p x)
 count_more p xs x = ap length (filter-append p xs (x ∷ [])) ∙ length-append (filter p xs) _ ∙ ap (λ (n : ℕ). length (filter p xs) + n) (by (p x))
   where
@@ -50,7 +50,7 @@ count_more p xs x = ap length (filter-append p xs (x ∷ [])) ∙ length-append 
     by true = refl
     by false = refl
 
--- a row changed
+-- a record changed
 pub count_set : {A : Type 0} (p : A → Bool) (xs : List A) (i : ℕ) (x y : A) → slice_get xs i ≡ Some x → count_of p (set xs i y) + one_if (p x) ≡ count_of p xs + one_if (p y)
 count_set p [] i x y h = cc
 count_set {A = A} p (z ∷ xs) zero x y h = let q : z ≡ x = cc in ap (λ (k : A). count_of p (y ∷ xs) + one_if (p k)) (sym q) ∙ by (p z) (p y) (filter p xs)
@@ -66,30 +66,30 @@ count_set {A = A} p (z ∷ xs) (suc i) x y h = by (p z) (filter p (set xs i y)) 
     by true us vs h = omega (arith, h)
     by false us vs h = h
 
--- rows that all change
+-- records that all change
 pub count_mapped : {A B : Type 0} (p : B → Bool) (f : A → B) (xs : List A) → count_of p (map f xs) ≡ count_of (λ x. p (f x)) xs
 count_mapped p f xs = count_map p f xs
 
--- where the rows stay, so do the counts
-pub riding_same : (e : Entry) (past : Past) (m : ℕ) → call_rows (e ∷ past) ≡ call_rows past → riding_count (e ∷ past) m ≡ riding_count past m
-riding_same e past m h = riding_by_rows (e ∷ past) m ∙ ap (count_of (carries m)) h ∙ sym (riding_by_rows past m)
+-- where the records stay, so do the counts
+pub riding_same : (e : Entry) (past : Past) (m : ℕ) → call_records (e ∷ past) ≡ call_records past → riding_count (e ∷ past) m ≡ riding_count past m
+riding_same e past m h = riding_by_records (e ∷ past) m ∙ ap (count_of (carries m)) h ∙ sym (riding_by_records past m)
 
--- where a row is added, it may carry the object
-pub riding_more : (e : Entry) (past : Past) (m : ℕ) (row : CallRow) → call_rows (e ∷ past) ≡ call_rows past ++ row ∷ [] → riding_count (e ∷ past) m ≡ riding_count past m + one_if (carries m row)
-riding_more e past m row h =
-    riding_by_rows (e ∷ past) m ∙ ap (count_of (carries m)) h ∙ count_more (carries m) (call_rows past) row ∙ ap (λ (n : ℕ). n + one_if (carries m row)) (sym (riding_by_rows past m))
+-- where a record is added, it may carry the object
+pub riding_more : (e : Entry) (past : Past) (m : ℕ) (item : CallRecord) → call_records (e ∷ past) ≡ call_records past ++ item ∷ [] → riding_count (e ∷ past) m ≡ riding_count past m + one_if (carries m item)
+riding_more e past m item h =
+    riding_by_records (e ∷ past) m ∙ ap (count_of (carries m)) h ∙ count_more (carries m) (call_records past) item ∙ ap (λ (n : ℕ). n + one_if (carries m item)) (sym (riding_by_records past m))
 
--- where a row is set, what it carried counts no more, and what it carries does
-pub riding_set : (e : Entry) (past : Past) (m i : ℕ) (old new : CallRow) → slice_get (call_rows past) i ≡ Some old → call_rows (e ∷ past) ≡ set (call_rows past) i new →
+-- where a record is set, what it carried counts no more, and what it carries does
+pub riding_set : (e : Entry) (past : Past) (m i : ℕ) (old new : CallRecord) → slice_get (call_records past) i ≡ Some old → call_records (e ∷ past) ≡ set (call_records past) i new →
     riding_count (e ∷ past) m + one_if (carries m old) ≡ riding_count past m + one_if (carries m new)
 riding_set e past m i old new g h =
-    ap (λ (n : ℕ). n + one_if (carries m old)) (riding_by_rows (e ∷ past) m ∙ ap (count_of (carries m)) h)
-    ∙ count_set (carries m) (call_rows past) i old new g
-    ∙ ap (λ (n : ℕ). n + one_if (carries m new)) (sym (riding_by_rows past m))
+    ap (λ (n : ℕ). n + one_if (carries m old)) (riding_by_records (e ∷ past) m ∙ ap (count_of (carries m)) h)
+    ∙ count_set (carries m) (call_records past) i old new g
+    ∙ ap (λ (n : ℕ). n + one_if (carries m new)) (sym (riding_by_records past m))
 
--- where all rows change alike
-pub riding_mapped : (e : Entry) (past : Past) (m : ℕ) (f : CallRow → CallRow) → call_rows (e ∷ past) ≡ map f (call_rows past) → riding_count (e ∷ past) m ≡ count_of (λ row. carries m (f row)) (call_rows past)
-riding_mapped e past m f h = riding_by_rows (e ∷ past) m ∙ ap (count_of (carries m)) h ∙ count_map (carries m) f (call_rows past)
+-- where all records change alike
+pub riding_mapped : (e : Entry) (past : Past) (m : ℕ) (f : CallRecord → CallRecord) → call_records (e ∷ past) ≡ map f (call_records past) → riding_count (e ∷ past) m ≡ count_of (λ item. carries m (f item)) (call_records past)
+riding_mapped e past m f h = riding_by_records (e ∷ past) m ∙ ap (count_of (carries m)) h ∙ count_map (carries m) f (call_records past)
 
 -- ---- what isn't made
 

@@ -21,7 +21,7 @@ use Rattle.jx_base.proofs.BasicLaws.{ap3, both, eq_of, and_true}
 use Rattle.jx_base.proofs.NthEntries.{nth_there}
 use Rattle.jx_model.proofs.CallSteps.{entry_made}
 use Rattle.jx_model.proofs.Serving.{in_domain, of_none, served, takes, returns_it, throws_it, unanswered, queued_open, not_ended_yet}
-use Rattle.history_rows.proofs.Rows.{some_of}
+use Rattle.history_rows.proofs.Records.{some_of}
 use Rattle.history_rows.proofs.Actors.{IsMade, live_made, made_stays, acts_live, live_by_reason}
 use Rattle.std.specs.Option.{option_map}
 

@@ -30,29 +30,29 @@ use Rattle.jx_model.specs.Permits.{is_choice, is_halt, zero_may}
 use Rattle.jx_model.specs.Replies.{reply_to, bound, done_within, copied}
 use Rattle.jx_model.specs.Bytes.{byte_at}
 use Rattle.jx_model.specs.Growth.{new_object_numbers}
-use Rattle.jx_model.specs.Tables.{Kept, StandsFor, ThreadRow, ServiceRow, CallRow, call_row, ExtentRow, extent_row, extent_bytes, ObjectRow, named_service, call_rows, extent_rows}
+use Rattle.jx_model.specs.Tables.{Kept, StandsFor, ThreadRecord, ServiceRecord, CallRecord, call_record, ExtentRecord, extent_record, extent_bytes, ObjectRecord, named_service, call_records, extent_records}
 use Rattle.jx_model.specs.Legal.{IsNext}
 use Rattle.jx_base.proofs.BasicLaws.{ap2, and_false, and_true}
-use Rattle.history_rows.proofs.Rows.{is_that, not_that, or_false}
+use Rattle.history_rows.proofs.Records.{is_that, not_that, or_false}
 use Rattle.history_rows.proofs.Actors.{acts_live, live_made, ended_was_live}
-use Rattle.history_rows.proofs.DomainRows.{born}
+use Rattle.history_rows.proofs.DomainRecords.{born}
 use Rattle.history_rows.proofs.Stages.{StandsAt, takes_queued, returns_running, throws_running}
-use Rattle.history_rows.proofs.ThreadRows.{thread_row_after, service_of_thread}
-use Rattle.history_rows.proofs.ThreadTable.{first_rows}
+use Rattle.history_rows.proofs.ThreadRecords.{thread_record_after, service_of_thread}
+use Rattle.history_rows.proofs.ThreadTable.{first_records}
 use Rattle.history_rows.proofs.ThreadActs.{threads_left, threads_stepped, threads_born, threads_exported, own_changed, own_added}
-use Rattle.history_rows.proofs.CallRows.{calls_counted, call_row_there}
+use Rattle.history_rows.proofs.CallRecords.{calls_counted, call_record_there}
 use Rattle.history_rows.proofs.CallActs.{entry, calls_untouched, calls_after_call, waiting_after_call, calls_after_take, waiting_after_take, calls_after_answer, waiting_after_answer, running_not_queued, return_answers, throw_answers, sent_objects, calls_after_resume, waiting_after_resume, calls_after_end, waiting_after_end, ended_call, owned_by}
 use Rattle.history_rows.proofs.Uses.{undone, turned, ByDomain}
 use Rattle.history_rows.proofs.InUse.{in_use}
 use Rattle.history_rows.proofs.Parts.{part_extent, with_done}
-use Rattle.history_rows.proofs.ByteRows.{written, bytes_after_fill, others_after_fill, bytes_after_set, others_after_set, bytes_after_copy, others_after_copy}
+use Rattle.history_rows.proofs.ByteRecords.{written, bytes_after_fill, others_after_fill, bytes_after_set, others_after_set, bytes_after_copy, others_after_copy}
 use Rattle.history_rows.proofs.PortalsMade.{held_made}
-use Rattle.history_rows.proofs.ServiceRows.{services_more, services_kept, portal_holders_same, name_same, name_after_bind, name_after_end}
-use Rattle.history_rows.proofs.ObjectRows.{new_object_row}
-use Rattle.history_rows.proofs.ExtentRows.{extents_more, extents_written, kept_bytes, extent_row_there}
+use Rattle.history_rows.proofs.ServiceRecords.{services_more, services_kept, portal_holders_same, name_same, name_after_bind, name_after_end}
+use Rattle.history_rows.proofs.ObjectRecords.{new_object_record}
+use Rattle.history_rows.proofs.ExtentRecords.{extents_more, extents_written, kept_bytes, extent_record_there}
 use Rattle.history_rows.proofs.Freed.{freed_runs}
 use Rattle.history_rows.proofs.Kept.{no_drop, keeps_domains, keeps_services, keeps_names, keeps_calls, keeps_waiting, keeps_parts, keeps_objects, keeps_extents, keeps_taken}
-use Rattle.history_rows.proofs.Every.{each_from, each_row, changed_at, set_changed, portals_after, object_row_after}
+use Rattle.history_rows.proofs.Every.{each_from, each_record, changed_at, set_changed, portals_after, object_record_after}
 use Rattle.history_rows.proofs.Pieces.{in_use_by, domains_born, domains_ended, services_stepped, objects_stepped, objects_beside, each_same, parts_added, extents_counted, extents_stepped, taken_freed, taken_born, born_run, allocated_run, allocated_run_is, taken_allocated}
 use Rattle.std.specs.Option.{option_and_then, option_map, unwrap_or}
 
@@ -71,13 +71,13 @@ copy_held past d j j_at m at count h =
 
 -- a create that makes a domain
 pub stands_after_create : (s : System) (k : Kept) (d t : ℕ) (x : ℕ) (j : DomainId) (g : ℕ) → StandsFor s k → IsNext s k.past (entry d t (act.Create x) (reply.Domain j g)) →
-    StandsFor s (record k { past = entry d t (act.Create x) (reply.Domain j g) ∷ k.past; domains = k.domains ++ born s (entry d t (act.Create x) (reply.Domain j g)) ∷ []; threads = k.threads ++ first_rows ∷ []; taken = each_from (λ i used. used || lies_in i (born_run s (entry d t (act.Create x) (reply.Domain j g)))) 0 k.taken })
+    StandsFor s (record k { past = entry d t (act.Create x) (reply.Domain j g) ∷ k.past; domains = k.domains ++ born s (entry d t (act.Create x) (reply.Domain j g)) ∷ []; threads = k.threads ++ first_records ∷ []; taken = each_from (λ i used. used || lies_in i (born_run s (entry d t (act.Create x) (reply.Domain j g)))) 0 k.taken })
 unfolding is_birth makes_domain ended_by ended_by_act is_export exported_interface received_service received_parcel bound_by_act is_call asked_by queued_as is_take_of is_resume_of answered_by_act new_parts received_objects objects_in is_drop_of ended_object is_allocation makes_extent is_done new_threads is_choice
 stands_after_create s k d t x j g h n =
     record {
       admitted = (n, h.admitted);
       domains = domains_born s k (entry d t (act.Create x) (reply.Domain j g)) h n refl refl;
-      threads = ap (λ (xs : List (List ThreadRow)). xs ++ first_rows ∷ []) h.threads ∙ sym (threads_born s k.past (entry d t (act.Create x) (reply.Domain j g)) (n, h.admitted) refl refl refl refl);
+      threads = ap (λ (xs : List (List ThreadRecord)). xs ++ first_records ∷ []) h.threads ∙ sym (threads_born s k.past (entry d t (act.Create x) (reply.Domain j g)) (n, h.admitted) refl refl refl refl);
       services = keeps_services s k (entry d t (act.Create x) (reply.Domain j g)) h n (record { export = refl; service = refl; parcel = refl; bind = λ x. refl }) refl;
       names = keeps_names s k (entry d t (act.Create x) (reply.Domain j g)) h n (λ x. refl) refl;
       calls = keeps_calls s k (entry d t (act.Create x) (reply.Domain j g)) h n (record { call = refl; ends = refl; take = λ x. refl; resume = λ x. refl; answer = λ x. refl });
@@ -90,13 +90,13 @@ stands_after_create s k d t x j g h n =
 
 -- a spawn that makes a domain
 pub stands_after_spawn : (s : System) (k : Kept) (d t : ℕ) (x : List ℕ) (j : DomainId) (g : ℕ) → StandsFor s k → IsNext s k.past (entry d t (act.Spawn x) (reply.Domain j g)) →
-    StandsFor s (record k { past = entry d t (act.Spawn x) (reply.Domain j g) ∷ k.past; domains = k.domains ++ born s (entry d t (act.Spawn x) (reply.Domain j g)) ∷ []; threads = k.threads ++ first_rows ∷ []; taken = each_from (λ i used. used || lies_in i (born_run s (entry d t (act.Spawn x) (reply.Domain j g)))) 0 k.taken })
+    StandsFor s (record k { past = entry d t (act.Spawn x) (reply.Domain j g) ∷ k.past; domains = k.domains ++ born s (entry d t (act.Spawn x) (reply.Domain j g)) ∷ []; threads = k.threads ++ first_records ∷ []; taken = each_from (λ i used. used || lies_in i (born_run s (entry d t (act.Spawn x) (reply.Domain j g)))) 0 k.taken })
 unfolding is_birth makes_domain ended_by ended_by_act is_export exported_interface received_service received_parcel bound_by_act is_call asked_by queued_as is_take_of is_resume_of answered_by_act new_parts received_objects objects_in is_drop_of ended_object is_allocation makes_extent is_done new_threads is_choice
 stands_after_spawn s k d t x j g h n =
     record {
       admitted = (n, h.admitted);
       domains = domains_born s k (entry d t (act.Spawn x) (reply.Domain j g)) h n refl refl;
-      threads = ap (λ (xs : List (List ThreadRow)). xs ++ first_rows ∷ []) h.threads ∙ sym (threads_born s k.past (entry d t (act.Spawn x) (reply.Domain j g)) (n, h.admitted) refl refl refl refl);
+      threads = ap (λ (xs : List (List ThreadRecord)). xs ++ first_records ∷ []) h.threads ∙ sym (threads_born s k.past (entry d t (act.Spawn x) (reply.Domain j g)) (n, h.admitted) refl refl refl refl);
       services = keeps_services s k (entry d t (act.Spawn x) (reply.Domain j g)) h n (record { export = refl; service = refl; parcel = refl; bind = λ x. refl }) refl;
       names = keeps_names s k (entry d t (act.Spawn x) (reply.Domain j g)) h n (λ x. refl) refl;
       calls = keeps_calls s k (entry d t (act.Spawn x) (reply.Domain j g)) h n (record { call = refl; ends = refl; take = λ x. refl; resume = λ x. refl; answer = λ x. refl });
@@ -116,7 +116,7 @@ stands_after_export s k d t iface j v c h n q =
       admitted = (n, h.admitted);
       domains = keeps_domains s k (entry d t (act.Export iface j) (reply.Service v c)) h n (record { birth = refl; ends = refl });
       threads = ap (own_added d (replicate j v)) h.threads ∙ sym (threads_exported s k.past (entry d t (act.Export iface j) (reply.Service v c)) (n, h.admitted) refl refl refl);
-      services = ap (λ (xs : List ServiceRow). xs ++ (record { owner = d; interface = Some iface; holders = d ∷ [] }) ∷ []) h.services ∙ sym (services_more s (entry d t (act.Export iface j) (reply.Service v c)) k.past (n, h.admitted) refl (or_false (v.0 == services_made k.past + 1) ∙ is_that v.0 (services_made k.past + 1) q) refl refl (acts_live s k.past d t (act.Export iface j) refl refl n.thread) (λ b i l u. ap (λ (x : Bool). is_own b (entry d t (act.Export iface j) (reply.Service v c)) && (x || false)) (not_that v.0 i (λ z. omega (arith, z, q, u))) ∙ and_false (is_own b (entry d t (act.Export iface j) (reply.Service v c)))));
+      services = ap (λ (xs : List ServiceRecord). xs ++ (record { owner = d; interface = Some iface; holders = d ∷ [] }) ∷ []) h.services ∙ sym (services_more s (entry d t (act.Export iface j) (reply.Service v c)) k.past (n, h.admitted) refl (or_false (v.0 == services_made k.past + 1) ∙ is_that v.0 (services_made k.past + 1) q) refl refl (acts_live s k.past d t (act.Export iface j) refl refl n.thread) (λ b i l u. ap (λ (x : Bool). is_own b (entry d t (act.Export iface j) (reply.Service v c)) && (x || false)) (not_that v.0 i (λ z. omega (arith, z, q, u))) ∙ and_false (is_own b (entry d t (act.Export iface j) (reply.Service v c)))));
       names = keeps_names s k (entry d t (act.Export iface j) (reply.Service v c)) h n (λ x. refl) refl;
       calls = keeps_calls s k (entry d t (act.Export iface j) (reply.Service v c)) h n (record { call = refl; ends = refl; take = λ x. refl; resume = λ x. refl; answer = λ x. refl });
       waiting = keeps_waiting s k (entry d t (act.Export iface j) (reply.Service v c)) h n (record { call = refl; ends = refl; take = λ x. refl; resume = λ x. refl; answer = λ x. refl });
@@ -155,7 +155,7 @@ stands_after_bind s k d t name v names h n q =
 
 -- a lookup that finds a service
 pub stands_after_lookup : (s : System) (k : Kept) (d t : ℕ) (name : List ℕ) (v : ServiceId) (c : ClassId) → StandsFor s k → IsNext s k.past (entry d t (act.Lookup name) (reply.Service v c)) →
-    StandsFor s (record k { past = entry d t (act.Lookup name) (reply.Service v c) ∷ k.past; services = each_row (λ nth row. record row { holders = portals_after (entry d t (act.Lookup name) (reply.Service v c)) (length k.domains) nth row.holders }) k.services })
+    StandsFor s (record k { past = entry d t (act.Lookup name) (reply.Service v c) ∷ k.past; services = each_record (λ nth item. record item { holders = portals_after (entry d t (act.Lookup name) (reply.Service v c)) (length k.domains) nth item.holders }) k.services })
 unfolding is_birth makes_domain ended_by ended_by_act is_export exported_interface received_service received_parcel bound_by_act is_call asked_by queued_as is_take_of is_resume_of answered_by_act new_parts received_objects objects_in is_drop_of ended_object is_allocation makes_extent is_done new_threads is_choice
 stands_after_lookup s k d t name v c h n =
     record {
@@ -174,102 +174,102 @@ stands_after_lookup s k d t name v c h n =
 
 -- a call that is queued
 pub stands_after_call : (s : System) (k : Kept) (d t : ℕ) (v : ServiceId) (m : MethodId) (p : Parcel) (c : CallId) → StandsFor s k → IsNext s k.past (entry d t (act.Call v m p) (reply.Queued c)) →
-    StandsFor s (record k { past = entry d t (act.Call v m p) (reply.Queued c) ∷ k.past; threads = own_changed d t (λ row. thread_row_after (service_of_thread k.past d t) row (act.Call v m p) (reply.Queued c)) k.threads; calls = (k.calls ++ (record { caller = d; thread = t; service = v.0; state = call.Queued; carried = parcel_objects p }) ∷ []); waiting = k.waiting ++ (length k.calls + 1) ∷ []; objects = each_row (object_row_after (entry d t (act.Call v m p) (reply.Queued c)) (length k.domains) k.parts (k.calls ++ (record { caller = d; thread = t; service = v.0; state = call.Queued; carried = parcel_objects p }) ∷ [])) k.objects })
+    StandsFor s (record k { past = entry d t (act.Call v m p) (reply.Queued c) ∷ k.past; threads = own_changed d t (λ item. thread_record_after (service_of_thread k.past d t) item (act.Call v m p) (reply.Queued c)) k.threads; calls = (k.calls ++ (record { caller = d; thread = t; service = v.0; state = call.Queued; carried = parcel_objects p }) ∷ []); waiting = k.waiting ++ (length k.calls + 1) ∷ []; objects = each_record (object_record_after (entry d t (act.Call v m p) (reply.Queued c)) (length k.domains) k.parts (k.calls ++ (record { caller = d; thread = t; service = v.0; state = call.Queued; carried = parcel_objects p }) ∷ [])) k.objects })
 unfolding is_birth makes_domain ended_by ended_by_act is_export exported_interface received_service received_parcel bound_by_act is_call asked_by queued_as is_take_of is_resume_of answered_by_act new_parts received_objects objects_in is_drop_of ended_object is_allocation makes_extent is_done new_threads is_choice
 stands_after_call s k d t v m p c h n =
     record {
       admitted = (n, h.admitted);
       domains = keeps_domains s k (entry d t (act.Call v m p) (reply.Queued c)) h n (record { birth = refl; ends = refl });
-      threads = ap (own_changed d t (λ row. thread_row_after (service_of_thread k.past d t) row (act.Call v m p) (reply.Queued c))) h.threads ∙ sym (threads_stepped s k.past (entry d t (act.Call v m p) (reply.Queued c)) n refl refl);
+      threads = ap (own_changed d t (λ item. thread_record_after (service_of_thread k.past d t) item (act.Call v m p) (reply.Queued c))) h.threads ∙ sym (threads_stepped s k.past (entry d t (act.Call v m p) (reply.Queued c)) n refl refl);
       services = keeps_services s k (entry d t (act.Call v m p) (reply.Queued c)) h n (record { export = refl; service = refl; parcel = refl; bind = λ x. refl }) refl;
       names = keeps_names s k (entry d t (act.Call v m p) (reply.Queued c)) h n (λ x. refl) refl;
-      calls = (ap (λ (xs : List CallRow). xs ++ (record { caller = d; thread = t; service = v.0; state = call.Queued; carried = parcel_objects p }) ∷ []) h.calls ∙ sym (calls_after_call s k.past h.admitted d t v m p c));
+      calls = (ap (λ (xs : List CallRecord). xs ++ (record { caller = d; thread = t; service = v.0; state = call.Queued; carried = parcel_objects p }) ∷ []) h.calls ∙ sym (calls_after_call s k.past h.admitted d t v m p c));
       waiting = ap2 (λ (xs : List ℕ) (i : ℕ). xs ++ (i + 1) ∷ []) h.waiting (ap length h.calls ∙ calls_counted k.past) ∙ sym (waiting_after_call s k.past h.admitted d t v m p c);
       parts = keeps_parts s k (entry d t (act.Call v m p) (reply.Queued c)) h n refl;
-      objects = objects_stepped s k (entry d t (act.Call v m p) (reply.Queued c)) h n (k.calls ++ (record { caller = d; thread = t; service = v.0; state = call.Queued; carried = parcel_objects p }) ∷ []) refl (ap (λ (xs : List CallRow). xs ++ (record { caller = d; thread = t; service = v.0; state = call.Queued; carried = parcel_objects p }) ∷ []) h.calls ∙ sym (calls_after_call s k.past h.admitted d t v m p c));
+      objects = objects_stepped s k (entry d t (act.Call v m p) (reply.Queued c)) h n (k.calls ++ (record { caller = d; thread = t; service = v.0; state = call.Queued; carried = parcel_objects p }) ∷ []) refl (ap (λ (xs : List CallRecord). xs ++ (record { caller = d; thread = t; service = v.0; state = call.Queued; carried = parcel_objects p }) ∷ []) h.calls ∙ sym (calls_after_call s k.past h.admitted d t v m p c));
       extents = keeps_extents s k (entry d t (act.Call v m p) (reply.Queued c)) h n refl refl (λ x. refl) refl;
       taken = keeps_taken s k (entry d t (act.Call v m p) (reply.Queued c)) h n (record { birth = refl; ends = refl }) refl (λ x. refl);
     }
 
 -- a take
 pub stands_after_take : (s : System) (k : Kept) (d t : ℕ) (c : CallId) (r : Reply) (i : ℕ) → StandsFor s k → IsNext s k.past (entry d t (act.Take c) r) → c.0 ≡ i + 1 →
-    StandsFor s (record k { past = entry d t (act.Take c) r ∷ k.past; threads = own_changed d t (λ row. thread_row_after (service_of_thread k.past d t) row (act.Take c) r) k.threads; services = each_row (λ nth row. record row { holders = portals_after (entry d t (act.Take c) r) (length k.domains) nth row.holders }) k.services; calls = (changed_at i (λ row. record row { state = call.Running; carried = [] }) k.calls); waiting = filter (λ x. not (c.0 == x)) k.waiting; objects = each_row (object_row_after (entry d t (act.Take c) r) (length k.domains) k.parts (changed_at i (λ row. record row { state = call.Running; carried = [] }) k.calls)) k.objects })
+    StandsFor s (record k { past = entry d t (act.Take c) r ∷ k.past; threads = own_changed d t (λ item. thread_record_after (service_of_thread k.past d t) item (act.Take c) r) k.threads; services = each_record (λ nth item. record item { holders = portals_after (entry d t (act.Take c) r) (length k.domains) nth item.holders }) k.services; calls = (changed_at i (λ item. record item { state = call.Running; carried = [] }) k.calls); waiting = filter (λ x. not (c.0 == x)) k.waiting; objects = each_record (object_record_after (entry d t (act.Take c) r) (length k.domains) k.parts (changed_at i (λ item. record item { state = call.Running; carried = [] }) k.calls)) k.objects })
 unfolding is_birth makes_domain ended_by ended_by_act is_export exported_interface received_service received_parcel bound_by_act is_call asked_by queued_as is_take_of is_resume_of answered_by_act new_parts received_objects objects_in is_drop_of ended_object is_allocation makes_extent is_done new_threads is_choice
 stands_after_take s k d t c r i h n q =
     record {
       admitted = (n, h.admitted);
       domains = keeps_domains s k (entry d t (act.Take c) r) h n (record { birth = refl; ends = refl });
-      threads = ap (own_changed d t (λ row. thread_row_after (service_of_thread k.past d t) row (act.Take c) r)) h.threads ∙ sym (threads_stepped s k.past (entry d t (act.Take c) r) n refl refl);
+      threads = ap (own_changed d t (λ item. thread_record_after (service_of_thread k.past d t) item (act.Take c) r)) h.threads ∙ sym (threads_stepped s k.past (entry d t (act.Take c) r) n refl refl);
       services = services_stepped s k (entry d t (act.Take c) r) h n refl;
       names = keeps_names s k (entry d t (act.Take c) r) h n (λ x. refl) refl;
-      calls = (ap (changed_at i (λ (row : CallRow). record row { state = call.Running; carried = [] })) h.calls ∙ sym (set_changed i (λ (row : CallRow). record row { state = call.Running; carried = [] }) (call_rows k.past) (call_row k.past c.0) (call_row_there k.past c.0 i q (takes_queued s k.past d t c h.admitted n.thread).high)) ∙ sym (calls_after_take s k.past h.admitted d t c r i q (takes_queued s k.past d t c h.admitted n.thread)));
+      calls = (ap (changed_at i (λ (item : CallRecord). record item { state = call.Running; carried = [] })) h.calls ∙ sym (set_changed i (λ (item : CallRecord). record item { state = call.Running; carried = [] }) (call_records k.past) (call_record k.past c.0) (call_record_there k.past c.0 i q (takes_queued s k.past d t c h.admitted n.thread).high)) ∙ sym (calls_after_take s k.past h.admitted d t c r i q (takes_queued s k.past d t c h.admitted n.thread)));
       waiting = ap (filter (λ x. not (c.0 == x))) h.waiting ∙ sym (waiting_after_take s k.past h.admitted d t c r);
       parts = keeps_parts s k (entry d t (act.Take c) r) h n refl;
-      objects = objects_stepped s k (entry d t (act.Take c) r) h n (changed_at i (λ row. record row { state = call.Running; carried = [] }) k.calls) refl (ap (changed_at i (λ (row : CallRow). record row { state = call.Running; carried = [] })) h.calls ∙ sym (set_changed i (λ (row : CallRow). record row { state = call.Running; carried = [] }) (call_rows k.past) (call_row k.past c.0) (call_row_there k.past c.0 i q (takes_queued s k.past d t c h.admitted n.thread).high)) ∙ sym (calls_after_take s k.past h.admitted d t c r i q (takes_queued s k.past d t c h.admitted n.thread)));
+      objects = objects_stepped s k (entry d t (act.Take c) r) h n (changed_at i (λ item. record item { state = call.Running; carried = [] }) k.calls) refl (ap (changed_at i (λ (item : CallRecord). record item { state = call.Running; carried = [] })) h.calls ∙ sym (set_changed i (λ (item : CallRecord). record item { state = call.Running; carried = [] }) (call_records k.past) (call_record k.past c.0) (call_record_there k.past c.0 i q (takes_queued s k.past d t c h.admitted n.thread).high)) ∙ sym (calls_after_take s k.past h.admitted d t c r i q (takes_queued s k.past d t c h.admitted n.thread)));
       extents = keeps_extents s k (entry d t (act.Take c) r) h n refl refl (λ x. and_false (is_done r)) (and_false (is_done r));
       taken = keeps_taken s k (entry d t (act.Take c) r) h n (record { birth = refl; ends = refl }) refl (λ x. and_false (is_done r));
     }
 
 -- a return, done or refused
 pub stands_after_return : (s : System) (k : Kept) (d t : ℕ) (c : CallId) (p : Parcel) (r : Reply) (i : ℕ) → StandsFor s k → IsNext s k.past (entry d t (act.Return c p) r) → c.0 ≡ i + 1 →
-    StandsFor s (record k { past = entry d t (act.Return c p) r ∷ k.past; threads = own_changed d t (λ row. thread_row_after (service_of_thread k.past d t) row (act.Return c p) r) k.threads; calls = (changed_at i (λ row. record row { state = call.Answered (answer_kind (answer_by_reply r (Answer.Value p))); carried = answer_objects (Some (answer_by_reply r (Answer.Value p))) }) k.calls); objects = each_row (object_row_after (entry d t (act.Return c p) r) (length k.domains) k.parts (changed_at i (λ row. record row { state = call.Answered (answer_kind (answer_by_reply r (Answer.Value p))); carried = answer_objects (Some (answer_by_reply r (Answer.Value p))) }) k.calls)) k.objects })
+    StandsFor s (record k { past = entry d t (act.Return c p) r ∷ k.past; threads = own_changed d t (λ item. thread_record_after (service_of_thread k.past d t) item (act.Return c p) r) k.threads; calls = (changed_at i (λ item. record item { state = call.Answered (answer_kind (answer_by_reply r (Answer.Value p))); carried = answer_objects (Some (answer_by_reply r (Answer.Value p))) }) k.calls); objects = each_record (object_record_after (entry d t (act.Return c p) r) (length k.domains) k.parts (changed_at i (λ item. record item { state = call.Answered (answer_kind (answer_by_reply r (Answer.Value p))); carried = answer_objects (Some (answer_by_reply r (Answer.Value p))) }) k.calls)) k.objects })
 unfolding is_birth makes_domain ended_by ended_by_act is_export exported_interface received_service received_parcel bound_by_act is_call asked_by queued_as is_take_of is_resume_of answered_by_act new_parts received_objects objects_in is_drop_of ended_object is_allocation makes_extent is_done new_threads is_choice reply_to
 stands_after_return s k d t c p r i h n q =
     record {
       admitted = (n, h.admitted);
       domains = keeps_domains s k (entry d t (act.Return c p) r) h n (record { birth = refl; ends = refl });
-      threads = ap (own_changed d t (λ row. thread_row_after (service_of_thread k.past d t) row (act.Return c p) r)) h.threads ∙ sym (threads_stepped s k.past (entry d t (act.Return c p) r) n refl refl);
+      threads = ap (own_changed d t (λ item. thread_record_after (service_of_thread k.past d t) item (act.Return c p) r)) h.threads ∙ sym (threads_stepped s k.past (entry d t (act.Return c p) r) n refl refl);
       services = keeps_services s k (entry d t (act.Return c p) r) h n (record { export = refl; service = refl; parcel = refl; bind = λ x. refl }) refl;
       names = keeps_names s k (entry d t (act.Return c p) r) h n (λ x. refl) refl;
-      calls = (ap (changed_at i (λ (row : CallRow). record row { state = call.Answered (answer_kind (answer_by_reply r (Answer.Value p))); carried = answer_objects (Some (answer_by_reply r (Answer.Value p))) })) h.calls ∙ sym (set_changed i (λ (row : CallRow). record row { state = call.Answered (answer_kind (answer_by_reply r (Answer.Value p))); carried = answer_objects (Some (answer_by_reply r (Answer.Value p))) }) (call_rows k.past) (call_row k.past c.0) (call_row_there k.past c.0 i q (returns_running s k.past d t c p h.admitted n.thread).high)) ∙ sym (calls_after_answer s k.past (entry d t (act.Return c p) r) c.0 i (answer_by_reply r (Answer.Value p)) h.admitted (return_answers k.past d t c p r) q (returns_running s k.past d t c p h.admitted n.thread) ∙ ap (λ (ys : List ℕ). set (call_rows k.past) i (let row : CallRow = record (call_row k.past c.0) { state = call.Answered (answer_kind (answer_by_reply r (Answer.Value p))); carried = ys } in row)) (sent_objects s k.past d c.0 p r (Answer.Value p) n.reply)));
+      calls = (ap (changed_at i (λ (item : CallRecord). record item { state = call.Answered (answer_kind (answer_by_reply r (Answer.Value p))); carried = answer_objects (Some (answer_by_reply r (Answer.Value p))) })) h.calls ∙ sym (set_changed i (λ (item : CallRecord). record item { state = call.Answered (answer_kind (answer_by_reply r (Answer.Value p))); carried = answer_objects (Some (answer_by_reply r (Answer.Value p))) }) (call_records k.past) (call_record k.past c.0) (call_record_there k.past c.0 i q (returns_running s k.past d t c p h.admitted n.thread).high)) ∙ sym (calls_after_answer s k.past (entry d t (act.Return c p) r) c.0 i (answer_by_reply r (Answer.Value p)) h.admitted (return_answers k.past d t c p r) q (returns_running s k.past d t c p h.admitted n.thread) ∙ ap (λ (ys : List ℕ). set (call_records k.past) i (let item : CallRecord = record (call_record k.past c.0) { state = call.Answered (answer_kind (answer_by_reply r (Answer.Value p))); carried = ys } in item)) (sent_objects s k.past d c.0 p r (Answer.Value p) n.reply)));
       waiting = h.waiting ∙ sym (waiting_after_answer k.past (entry d t (act.Return c p) r) c.0 (answer_by_reply r (Answer.Value p)) (return_answers k.past d t c p r) (running_not_queued k.past c.0 (returns_running s k.past d t c p h.admitted n.thread).state));
       parts = keeps_parts s k (entry d t (act.Return c p) r) h n refl;
-      objects = objects_stepped s k (entry d t (act.Return c p) r) h n (changed_at i (λ row. record row { state = call.Answered (answer_kind (answer_by_reply r (Answer.Value p))); carried = answer_objects (Some (answer_by_reply r (Answer.Value p))) }) k.calls) refl (ap (changed_at i (λ (row : CallRow). record row { state = call.Answered (answer_kind (answer_by_reply r (Answer.Value p))); carried = answer_objects (Some (answer_by_reply r (Answer.Value p))) })) h.calls ∙ sym (set_changed i (λ (row : CallRow). record row { state = call.Answered (answer_kind (answer_by_reply r (Answer.Value p))); carried = answer_objects (Some (answer_by_reply r (Answer.Value p))) }) (call_rows k.past) (call_row k.past c.0) (call_row_there k.past c.0 i q (returns_running s k.past d t c p h.admitted n.thread).high)) ∙ sym (calls_after_answer s k.past (entry d t (act.Return c p) r) c.0 i (answer_by_reply r (Answer.Value p)) h.admitted (return_answers k.past d t c p r) q (returns_running s k.past d t c p h.admitted n.thread) ∙ ap (λ (ys : List ℕ). set (call_rows k.past) i (let row : CallRow = record (call_row k.past c.0) { state = call.Answered (answer_kind (answer_by_reply r (Answer.Value p))); carried = ys } in row)) (sent_objects s k.past d c.0 p r (Answer.Value p) n.reply)));
+      objects = objects_stepped s k (entry d t (act.Return c p) r) h n (changed_at i (λ item. record item { state = call.Answered (answer_kind (answer_by_reply r (Answer.Value p))); carried = answer_objects (Some (answer_by_reply r (Answer.Value p))) }) k.calls) refl (ap (changed_at i (λ (item : CallRecord). record item { state = call.Answered (answer_kind (answer_by_reply r (Answer.Value p))); carried = answer_objects (Some (answer_by_reply r (Answer.Value p))) })) h.calls ∙ sym (set_changed i (λ (item : CallRecord). record item { state = call.Answered (answer_kind (answer_by_reply r (Answer.Value p))); carried = answer_objects (Some (answer_by_reply r (Answer.Value p))) }) (call_records k.past) (call_record k.past c.0) (call_record_there k.past c.0 i q (returns_running s k.past d t c p h.admitted n.thread).high)) ∙ sym (calls_after_answer s k.past (entry d t (act.Return c p) r) c.0 i (answer_by_reply r (Answer.Value p)) h.admitted (return_answers k.past d t c p r) q (returns_running s k.past d t c p h.admitted n.thread) ∙ ap (λ (ys : List ℕ). set (call_records k.past) i (let item : CallRecord = record (call_record k.past c.0) { state = call.Answered (answer_kind (answer_by_reply r (Answer.Value p))); carried = ys } in item)) (sent_objects s k.past d c.0 p r (Answer.Value p) n.reply)));
       extents = keeps_extents s k (entry d t (act.Return c p) r) h n refl refl (λ x. and_false (is_done r)) (and_false (is_done r));
       taken = keeps_taken s k (entry d t (act.Return c p) r) h n (record { birth = refl; ends = refl }) refl (λ x. and_false (is_done r));
     }
 
 -- a throw, done or refused
 pub stands_after_throw : (s : System) (k : Kept) (d t : ℕ) (c : CallId) (p : Parcel) (r : Reply) (i : ℕ) → StandsFor s k → IsNext s k.past (entry d t (act.Throw c p) r) → c.0 ≡ i + 1 →
-    StandsFor s (record k { past = entry d t (act.Throw c p) r ∷ k.past; threads = own_changed d t (λ row. thread_row_after (service_of_thread k.past d t) row (act.Throw c p) r) k.threads; calls = (changed_at i (λ row. record row { state = call.Answered (answer_kind (answer_by_reply r (thrown p))); carried = answer_objects (Some (answer_by_reply r (thrown p))) }) k.calls); objects = each_row (object_row_after (entry d t (act.Throw c p) r) (length k.domains) k.parts (changed_at i (λ row. record row { state = call.Answered (answer_kind (answer_by_reply r (thrown p))); carried = answer_objects (Some (answer_by_reply r (thrown p))) }) k.calls)) k.objects })
+    StandsFor s (record k { past = entry d t (act.Throw c p) r ∷ k.past; threads = own_changed d t (λ item. thread_record_after (service_of_thread k.past d t) item (act.Throw c p) r) k.threads; calls = (changed_at i (λ item. record item { state = call.Answered (answer_kind (answer_by_reply r (thrown p))); carried = answer_objects (Some (answer_by_reply r (thrown p))) }) k.calls); objects = each_record (object_record_after (entry d t (act.Throw c p) r) (length k.domains) k.parts (changed_at i (λ item. record item { state = call.Answered (answer_kind (answer_by_reply r (thrown p))); carried = answer_objects (Some (answer_by_reply r (thrown p))) }) k.calls)) k.objects })
 unfolding is_birth makes_domain ended_by ended_by_act is_export exported_interface received_service received_parcel bound_by_act is_call asked_by queued_as is_take_of is_resume_of answered_by_act new_parts received_objects objects_in is_drop_of ended_object is_allocation makes_extent is_done new_threads is_choice reply_to
 stands_after_throw s k d t c p r i h n q =
     record {
       admitted = (n, h.admitted);
       domains = keeps_domains s k (entry d t (act.Throw c p) r) h n (record { birth = refl; ends = refl });
-      threads = ap (own_changed d t (λ row. thread_row_after (service_of_thread k.past d t) row (act.Throw c p) r)) h.threads ∙ sym (threads_stepped s k.past (entry d t (act.Throw c p) r) n refl refl);
+      threads = ap (own_changed d t (λ item. thread_record_after (service_of_thread k.past d t) item (act.Throw c p) r)) h.threads ∙ sym (threads_stepped s k.past (entry d t (act.Throw c p) r) n refl refl);
       services = keeps_services s k (entry d t (act.Throw c p) r) h n (record { export = refl; service = refl; parcel = refl; bind = λ x. refl }) refl;
       names = keeps_names s k (entry d t (act.Throw c p) r) h n (λ x. refl) refl;
-      calls = (ap (changed_at i (λ (row : CallRow). record row { state = call.Answered (answer_kind (answer_by_reply r (thrown p))); carried = answer_objects (Some (answer_by_reply r (thrown p))) })) h.calls ∙ sym (set_changed i (λ (row : CallRow). record row { state = call.Answered (answer_kind (answer_by_reply r (thrown p))); carried = answer_objects (Some (answer_by_reply r (thrown p))) }) (call_rows k.past) (call_row k.past c.0) (call_row_there k.past c.0 i q (throws_running s k.past d t c p h.admitted n.thread).high)) ∙ sym (calls_after_answer s k.past (entry d t (act.Throw c p) r) c.0 i (answer_by_reply r (thrown p)) h.admitted (throw_answers k.past d t c p r) q (throws_running s k.past d t c p h.admitted n.thread) ∙ ap (λ (ys : List ℕ). set (call_rows k.past) i (let row : CallRow = record (call_row k.past c.0) { state = call.Answered (answer_kind (answer_by_reply r (thrown p))); carried = ys } in row)) (sent_objects s k.past d c.0 p r (thrown p) n.reply)));
+      calls = (ap (changed_at i (λ (item : CallRecord). record item { state = call.Answered (answer_kind (answer_by_reply r (thrown p))); carried = answer_objects (Some (answer_by_reply r (thrown p))) })) h.calls ∙ sym (set_changed i (λ (item : CallRecord). record item { state = call.Answered (answer_kind (answer_by_reply r (thrown p))); carried = answer_objects (Some (answer_by_reply r (thrown p))) }) (call_records k.past) (call_record k.past c.0) (call_record_there k.past c.0 i q (throws_running s k.past d t c p h.admitted n.thread).high)) ∙ sym (calls_after_answer s k.past (entry d t (act.Throw c p) r) c.0 i (answer_by_reply r (thrown p)) h.admitted (throw_answers k.past d t c p r) q (throws_running s k.past d t c p h.admitted n.thread) ∙ ap (λ (ys : List ℕ). set (call_records k.past) i (let item : CallRecord = record (call_record k.past c.0) { state = call.Answered (answer_kind (answer_by_reply r (thrown p))); carried = ys } in item)) (sent_objects s k.past d c.0 p r (thrown p) n.reply)));
       waiting = h.waiting ∙ sym (waiting_after_answer k.past (entry d t (act.Throw c p) r) c.0 (answer_by_reply r (thrown p)) (throw_answers k.past d t c p r) (running_not_queued k.past c.0 (throws_running s k.past d t c p h.admitted n.thread).state));
       parts = keeps_parts s k (entry d t (act.Throw c p) r) h n refl;
-      objects = objects_stepped s k (entry d t (act.Throw c p) r) h n (changed_at i (λ row. record row { state = call.Answered (answer_kind (answer_by_reply r (thrown p))); carried = answer_objects (Some (answer_by_reply r (thrown p))) }) k.calls) refl (ap (changed_at i (λ (row : CallRow). record row { state = call.Answered (answer_kind (answer_by_reply r (thrown p))); carried = answer_objects (Some (answer_by_reply r (thrown p))) })) h.calls ∙ sym (set_changed i (λ (row : CallRow). record row { state = call.Answered (answer_kind (answer_by_reply r (thrown p))); carried = answer_objects (Some (answer_by_reply r (thrown p))) }) (call_rows k.past) (call_row k.past c.0) (call_row_there k.past c.0 i q (throws_running s k.past d t c p h.admitted n.thread).high)) ∙ sym (calls_after_answer s k.past (entry d t (act.Throw c p) r) c.0 i (answer_by_reply r (thrown p)) h.admitted (throw_answers k.past d t c p r) q (throws_running s k.past d t c p h.admitted n.thread) ∙ ap (λ (ys : List ℕ). set (call_rows k.past) i (let row : CallRow = record (call_row k.past c.0) { state = call.Answered (answer_kind (answer_by_reply r (thrown p))); carried = ys } in row)) (sent_objects s k.past d c.0 p r (thrown p) n.reply)));
+      objects = objects_stepped s k (entry d t (act.Throw c p) r) h n (changed_at i (λ item. record item { state = call.Answered (answer_kind (answer_by_reply r (thrown p))); carried = answer_objects (Some (answer_by_reply r (thrown p))) }) k.calls) refl (ap (changed_at i (λ (item : CallRecord). record item { state = call.Answered (answer_kind (answer_by_reply r (thrown p))); carried = answer_objects (Some (answer_by_reply r (thrown p))) })) h.calls ∙ sym (set_changed i (λ (item : CallRecord). record item { state = call.Answered (answer_kind (answer_by_reply r (thrown p))); carried = answer_objects (Some (answer_by_reply r (thrown p))) }) (call_records k.past) (call_record k.past c.0) (call_record_there k.past c.0 i q (throws_running s k.past d t c p h.admitted n.thread).high)) ∙ sym (calls_after_answer s k.past (entry d t (act.Throw c p) r) c.0 i (answer_by_reply r (thrown p)) h.admitted (throw_answers k.past d t c p r) q (throws_running s k.past d t c p h.admitted n.thread) ∙ ap (λ (ys : List ℕ). set (call_records k.past) i (let item : CallRecord = record (call_record k.past c.0) { state = call.Answered (answer_kind (answer_by_reply r (thrown p))); carried = ys } in item)) (sent_objects s k.past d c.0 p r (thrown p) n.reply)));
       extents = keeps_extents s k (entry d t (act.Throw c p) r) h n refl refl (λ x. and_false (is_done r)) (and_false (is_done r));
       taken = keeps_taken s k (entry d t (act.Throw c p) r) h n (record { birth = refl; ends = refl }) refl (λ x. and_false (is_done r));
     }
 
 -- a resume after an answered call
 pub stands_after_resume : (s : System) (k : Kept) (d t : ℕ) (c : CallId) (r : Reply) (i : ℕ) (j : AnswerKind) → StandsFor s k → IsNext s k.past (entry d t (act.Resume c) r) → c.0 ≡ i + 1 → StandsAt k.past c.0 (call.Answered j) →
-    StandsFor s (record k { past = entry d t (act.Resume c) r ∷ k.past; threads = own_changed d t (λ row. thread_row_after (service_of_thread k.past d t) row (act.Resume c) r) k.threads; services = each_row (λ nth row. record row { holders = portals_after (entry d t (act.Resume c) r) (length k.domains) nth row.holders }) k.services; calls = (changed_at i (λ row. record row { state = call.Resumed; carried = [] }) k.calls); objects = each_row (object_row_after (entry d t (act.Resume c) r) (length k.domains) k.parts (changed_at i (λ row. record row { state = call.Resumed; carried = [] }) k.calls)) k.objects })
+    StandsFor s (record k { past = entry d t (act.Resume c) r ∷ k.past; threads = own_changed d t (λ item. thread_record_after (service_of_thread k.past d t) item (act.Resume c) r) k.threads; services = each_record (λ nth item. record item { holders = portals_after (entry d t (act.Resume c) r) (length k.domains) nth item.holders }) k.services; calls = (changed_at i (λ item. record item { state = call.Resumed; carried = [] }) k.calls); objects = each_record (object_record_after (entry d t (act.Resume c) r) (length k.domains) k.parts (changed_at i (λ item. record item { state = call.Resumed; carried = [] }) k.calls)) k.objects })
 unfolding is_birth makes_domain ended_by ended_by_act is_export exported_interface received_service received_parcel bound_by_act is_call asked_by queued_as is_take_of is_resume_of answered_by_act new_parts received_objects objects_in is_drop_of ended_object is_allocation makes_extent is_done new_threads is_choice
 stands_after_resume s k d t c r i j h n q st =
     record {
       admitted = (n, h.admitted);
       domains = keeps_domains s k (entry d t (act.Resume c) r) h n (record { birth = refl; ends = refl });
-      threads = ap (own_changed d t (λ row. thread_row_after (service_of_thread k.past d t) row (act.Resume c) r)) h.threads ∙ sym (threads_stepped s k.past (entry d t (act.Resume c) r) n refl refl);
+      threads = ap (own_changed d t (λ item. thread_record_after (service_of_thread k.past d t) item (act.Resume c) r)) h.threads ∙ sym (threads_stepped s k.past (entry d t (act.Resume c) r) n refl refl);
       services = services_stepped s k (entry d t (act.Resume c) r) h n refl;
       names = keeps_names s k (entry d t (act.Resume c) r) h n (λ x. refl) refl;
-      calls = (ap (changed_at i (λ (row : CallRow). record row { state = call.Resumed; carried = [] })) h.calls ∙ sym (set_changed i (λ (row : CallRow). record row { state = call.Resumed; carried = [] }) (call_rows k.past) (call_row k.past c.0) (call_row_there k.past c.0 i q st.high)) ∙ sym (calls_after_resume s k.past d t c r i j h.admitted q st));
+      calls = (ap (changed_at i (λ (item : CallRecord). record item { state = call.Resumed; carried = [] })) h.calls ∙ sym (set_changed i (λ (item : CallRecord). record item { state = call.Resumed; carried = [] }) (call_records k.past) (call_record k.past c.0) (call_record_there k.past c.0 i q st.high)) ∙ sym (calls_after_resume s k.past d t c r i j h.admitted q st));
       waiting = h.waiting ∙ sym (waiting_after_resume k.past d t c r);
       parts = keeps_parts s k (entry d t (act.Resume c) r) h n refl;
-      objects = objects_stepped s k (entry d t (act.Resume c) r) h n (changed_at i (λ row. record row { state = call.Resumed; carried = [] }) k.calls) refl (ap (changed_at i (λ (row : CallRow). record row { state = call.Resumed; carried = [] })) h.calls ∙ sym (set_changed i (λ (row : CallRow). record row { state = call.Resumed; carried = [] }) (call_rows k.past) (call_row k.past c.0) (call_row_there k.past c.0 i q st.high)) ∙ sym (calls_after_resume s k.past d t c r i j h.admitted q st));
+      objects = objects_stepped s k (entry d t (act.Resume c) r) h n (changed_at i (λ item. record item { state = call.Resumed; carried = [] }) k.calls) refl (ap (changed_at i (λ (item : CallRecord). record item { state = call.Resumed; carried = [] })) h.calls ∙ sym (set_changed i (λ (item : CallRecord). record item { state = call.Resumed; carried = [] }) (call_records k.past) (call_record k.past c.0) (call_record_there k.past c.0 i q st.high)) ∙ sym (calls_after_resume s k.past d t c r i j h.admitted q st));
       extents = keeps_extents s k (entry d t (act.Resume c) r) h n refl refl (λ x. and_false (is_done r)) (and_false (is_done r));
       taken = keeps_taken s k (entry d t (act.Resume c) r) h n (record { birth = refl; ends = refl }) refl (λ x. and_false (is_done r));
     }
 
 -- an allocation
 pub stands_after_alloc : (s : System) (k : Kept) (d t : ℕ) (z : ℤ) (m : ObjectId) (g : ℕ) → StandsFor s k → IsNext s k.past (entry d t (act.Alloc z) (reply.Made m g)) →
-    StandsFor s (record k { past = entry d t (act.Alloc z) (reply.Made m g) ∷ k.past; parts = k.parts ++ ((record { parent = 0; extent = length k.extents + 1; from = 0; size = not_below_zero z }) ∷ []); objects = k.objects ++ new_object_row d ∷ []; extents = k.extents ++ (record { run = allocated_run (entry d t (act.Alloc z) (reply.Made m g)); bytes = Some (replicate (not_below_zero z) 0) }) ∷ []; taken = each_from (λ i used. used || lies_in i (allocated_run (entry d t (act.Alloc z) (reply.Made m g)))) 0 k.taken })
+    StandsFor s (record k { past = entry d t (act.Alloc z) (reply.Made m g) ∷ k.past; parts = k.parts ++ ((record { parent = 0; extent = length k.extents + 1; from = 0; size = not_below_zero z }) ∷ []); objects = k.objects ++ new_object_record d ∷ []; extents = k.extents ++ (record { run = allocated_run (entry d t (act.Alloc z) (reply.Made m g)); bytes = Some (replicate (not_below_zero z) 0) }) ∷ []; taken = each_from (λ i used. used || lies_in i (allocated_run (entry d t (act.Alloc z) (reply.Made m g)))) 0 k.taken })
 unfolding is_birth makes_domain ended_by ended_by_act is_export exported_interface received_service received_parcel bound_by_act is_call asked_by queued_as is_take_of is_resume_of answered_by_act new_parts received_objects objects_in is_drop_of ended_object is_allocation makes_extent is_done new_threads is_choice is_halt zero_may new_object_numbers ends_one_of passes allocated_bytes
 stands_after_alloc s k d t z m g h n =
     record {
@@ -281,14 +281,14 @@ stands_after_alloc s k d t z m g h n =
       calls = keeps_calls s k (entry d t (act.Alloc z) (reply.Made m g)) h n (record { call = refl; ends = refl; take = λ x. refl; resume = λ x. refl; answer = λ x. refl });
       waiting = keeps_waiting s k (entry d t (act.Alloc z) (reply.Made m g)) h n (record { call = refl; ends = refl; take = λ x. refl; resume = λ x. refl; answer = λ x. refl });
       parts = parts_added s k (entry d t (act.Alloc z) (reply.Made m g)) h n ((record { parent = 0; extent = length k.extents + 1; from = 0; size = not_below_zero z }) ∷ []) (ap (λ (x : ℕ). let p : Part = (record { parent = 0; extent = x + 1; from = 0; size = not_below_zero z }) in p ∷ []) (extents_counted s k (entry d t (act.Alloc z) (reply.Made m g)) h n));
-      objects = ap (λ (xs : List ObjectRow). xs ++ new_object_row d ∷ []) (sym (each_same (λ m row. record row { valid = row.valid && true }) 1 k.objects (λ m row. ap (λ (b : Bool). let x : ObjectRow = record row { valid = b } in x) (and_true row.valid)))) ∙ objects_beside s k (entry d t (act.Alloc z) (reply.Made m g)) h n 1 refl refl (acts_live s k.past d t (act.Alloc z) refl refl n.thread) refl refl (no_drop (entry d t (act.Alloc z) (reply.Made m g)) (λ x. refl)) (calls_untouched s (entry d t (act.Alloc z) (reply.Made m g)) k.past h.admitted (record { call = refl; ends = refl; take = λ x. refl; resume = λ x. refl; answer = λ x. refl }));
-      extents = ap (λ (xs : List ExtentRow). xs ++ (record { run = allocated_run (entry d t (act.Alloc z) (reply.Made m g)); bytes = Some (replicate (not_below_zero z) 0) }) ∷ []) h.extents ∙ ap (λ (r : Run). let row : ExtentRow = record { run = r; bytes = Some (replicate (not_below_zero z) 0) } in extent_rows k.past ++ row ∷ []) (sym (allocated_run_is s k (entry d t (act.Alloc z) (reply.Made m g)) h n refl)) ∙ sym (extents_more s (entry d t (act.Alloc z) (reply.Made m g)) k.past (n, h.admitted) refl refl (acts_live s k.past d t (act.Alloc z) refl refl n.thread) (no_drop (entry d t (act.Alloc z) (reply.Made m g)) (λ x. refl)) refl);
+      objects = ap (λ (xs : List ObjectRecord). xs ++ new_object_record d ∷ []) (sym (each_same (λ m item. record item { valid = item.valid && true }) 1 k.objects (λ m item. ap (λ (b : Bool). let x : ObjectRecord = record item { valid = b } in x) (and_true item.valid)))) ∙ objects_beside s k (entry d t (act.Alloc z) (reply.Made m g)) h n 1 refl refl (acts_live s k.past d t (act.Alloc z) refl refl n.thread) refl refl (no_drop (entry d t (act.Alloc z) (reply.Made m g)) (λ x. refl)) (calls_untouched s (entry d t (act.Alloc z) (reply.Made m g)) k.past h.admitted (record { call = refl; ends = refl; take = λ x. refl; resume = λ x. refl; answer = λ x. refl }));
+      extents = ap (λ (xs : List ExtentRecord). xs ++ (record { run = allocated_run (entry d t (act.Alloc z) (reply.Made m g)); bytes = Some (replicate (not_below_zero z) 0) }) ∷ []) h.extents ∙ ap (λ (r : Run). let item : ExtentRecord = record { run = r; bytes = Some (replicate (not_below_zero z) 0) } in extent_records k.past ++ item ∷ []) (sym (allocated_run_is s k (entry d t (act.Alloc z) (reply.Made m g)) h n refl)) ∙ sym (extents_more s (entry d t (act.Alloc z) (reply.Made m g)) k.past (n, h.admitted) refl refl (acts_live s k.past d t (act.Alloc z) refl refl n.thread) (no_drop (entry d t (act.Alloc z) (reply.Made m g)) (λ x. refl)) refl);
       taken = taken_allocated s k (entry d t (act.Alloc z) (reply.Made m g)) h n refl refl (no_drop (entry d t (act.Alloc z) (reply.Made m g)) (λ x. refl)) (acts_live s k.past d t (act.Alloc z) refl refl n.thread);
     }
 
 -- a sub of an object of that part
 pub stands_after_sub : (s : System) (k : Kept) (d t : ℕ) (m : ObjectId) (at count : ℤ) (new : ObjectId) (o : Part) → StandsFor s k → IsNext s k.past (entry d t (act.Sub m at count) (reply.Object new)) → numbered k.parts m.0 ≡ Some o →
-    StandsFor s (record k { past = entry d t (act.Sub m at count) (reply.Object new) ∷ k.past; parts = k.parts ++ part_within m.0 o (not_below_zero at) (not_below_zero count) ∷ []; objects = k.objects ++ new_object_row d ∷ [] })
+    StandsFor s (record k { past = entry d t (act.Sub m at count) (reply.Object new) ∷ k.past; parts = k.parts ++ part_within m.0 o (not_below_zero at) (not_below_zero count) ∷ []; objects = k.objects ++ new_object_record d ∷ [] })
 unfolding is_birth makes_domain ended_by ended_by_act is_export exported_interface received_service received_parcel bound_by_act is_call asked_by queued_as is_take_of is_resume_of answered_by_act new_parts received_objects objects_in is_drop_of ended_object is_allocation makes_extent is_done new_threads is_choice is_halt zero_may new_object_numbers ends_one_of passes made_of
 stands_after_sub s k d t m at count new o h n q =
     record {
@@ -300,14 +300,14 @@ stands_after_sub s k d t m at count new o h n q =
       calls = keeps_calls s k (entry d t (act.Sub m at count) (reply.Object new)) h n (record { call = refl; ends = refl; take = λ x. refl; resume = λ x. refl; answer = λ x. refl });
       waiting = keeps_waiting s k (entry d t (act.Sub m at count) (reply.Object new)) h n (record { call = refl; ends = refl; take = λ x. refl; resume = λ x. refl; answer = λ x. refl });
       parts = parts_added s k (entry d t (act.Sub m at count) (reply.Object new)) h n (part_within m.0 o (not_below_zero at) (not_below_zero count) ∷ []) (ap (λ (p : Option Part). made_of p (λ o. part_within m.0 o (not_below_zero at) (not_below_zero count) ∷ [])) (sym q));
-      objects = ap (λ (xs : List ObjectRow). xs ++ new_object_row d ∷ []) (sym (each_same (λ m row. record row { valid = row.valid && true }) 1 k.objects (λ m row. ap (λ (b : Bool). let x : ObjectRow = record row { valid = b } in x) (and_true row.valid)))) ∙ objects_beside s k (entry d t (act.Sub m at count) (reply.Object new)) h n 1 refl refl (acts_live s k.past d t (act.Sub m at count) refl refl n.thread) (ap (λ (p : Option Part). length (made_of p (λ o. part_within m.0 o (not_below_zero at) (not_below_zero count) ∷ []))) (sym q ∙ ap (λ (xs : List Part). numbered xs m.0) h.parts)) refl (no_drop (entry d t (act.Sub m at count) (reply.Object new)) (λ x. refl)) (calls_untouched s (entry d t (act.Sub m at count) (reply.Object new)) k.past h.admitted (record { call = refl; ends = refl; take = λ x. refl; resume = λ x. refl; answer = λ x. refl }));
+      objects = ap (λ (xs : List ObjectRecord). xs ++ new_object_record d ∷ []) (sym (each_same (λ m item. record item { valid = item.valid && true }) 1 k.objects (λ m item. ap (λ (b : Bool). let x : ObjectRecord = record item { valid = b } in x) (and_true item.valid)))) ∙ objects_beside s k (entry d t (act.Sub m at count) (reply.Object new)) h n 1 refl refl (acts_live s k.past d t (act.Sub m at count) refl refl n.thread) (ap (λ (p : Option Part). length (made_of p (λ o. part_within m.0 o (not_below_zero at) (not_below_zero count) ∷ []))) (sym q ∙ ap (λ (xs : List Part). numbered xs m.0) h.parts)) refl (no_drop (entry d t (act.Sub m at count) (reply.Object new)) (λ x. refl)) (calls_untouched s (entry d t (act.Sub m at count) (reply.Object new)) k.past h.admitted (record { call = refl; ends = refl; take = λ x. refl; resume = λ x. refl; answer = λ x. refl }));
       extents = keeps_extents s k (entry d t (act.Sub m at count) (reply.Object new)) h n refl refl (λ x. refl) refl;
       taken = keeps_taken s k (entry d t (act.Sub m at count) (reply.Object new)) h n (record { birth = refl; ends = refl }) refl (λ x. refl);
     }
 
 -- a split of an object of that part: it and what is derived from it are valid no more
 pub stands_after_split : (s : System) (k : Kept) (d t : ℕ) (m : ObjectId) (at : ℤ) (x y : ObjectId) (o : Part) → StandsFor s k → IsNext s k.past (entry d t (act.Split m at) (reply.Pair x y)) → numbered k.parts m.0 ≡ Some o →
-    StandsFor s (record k { past = entry d t (act.Split m at) (reply.Pair x y) ∷ k.past; parts = k.parts ++ (sides_at (not_below_zero at) o); objects = each_row (λ j row. record row { valid = row.valid && not (contains_number (lineage_of k.parts j) m.0) }) k.objects ++ replicate 2 (new_object_row d) })
+    StandsFor s (record k { past = entry d t (act.Split m at) (reply.Pair x y) ∷ k.past; parts = k.parts ++ (sides_at (not_below_zero at) o); objects = each_record (λ j item. record item { valid = item.valid && not (contains_number (lineage_of k.parts j) m.0) }) k.objects ++ replicate 2 (new_object_record d) })
 unfolding is_birth makes_domain ended_by ended_by_act is_export exported_interface received_service received_parcel bound_by_act is_call asked_by queued_as is_take_of is_resume_of answered_by_act new_parts received_objects objects_in is_drop_of ended_object is_allocation makes_extent is_done new_threads is_choice is_halt zero_may new_object_numbers ends_one_of passes made_of sides_at
 stands_after_split s k d t m at x y o h n q =
     record {
@@ -326,7 +326,7 @@ stands_after_split s k d t m at x y o h n q =
 
 -- a revoke of an object of that part: it and what is derived from it are valid no more
 pub stands_after_revoke : (s : System) (k : Kept) (d t : ℕ) (m new : ObjectId) (o : Part) → StandsFor s k → IsNext s k.past (entry d t (act.Revoke m) (reply.Object new)) → numbered k.parts m.0 ≡ Some o →
-    StandsFor s (record k { past = entry d t (act.Revoke m) (reply.Object new) ∷ k.past; parts = k.parts ++ (o ∷ []); objects = each_row (λ j row. record row { valid = row.valid && not (contains_number (lineage_of k.parts j) m.0) }) k.objects ++ replicate 1 (new_object_row d) })
+    StandsFor s (record k { past = entry d t (act.Revoke m) (reply.Object new) ∷ k.past; parts = k.parts ++ (o ∷ []); objects = each_record (λ j item. record item { valid = item.valid && not (contains_number (lineage_of k.parts j) m.0) }) k.objects ++ replicate 1 (new_object_record d) })
 unfolding is_birth makes_domain ended_by ended_by_act is_export exported_interface received_service received_parcel bound_by_act is_call asked_by queued_as is_take_of is_resume_of answered_by_act new_parts received_objects objects_in is_drop_of ended_object is_allocation makes_extent is_done new_threads is_choice is_halt zero_may new_object_numbers ends_one_of passes made_of sides_at
 stands_after_revoke s k d t m new o h n q =
     record {
@@ -345,8 +345,8 @@ stands_after_revoke s k d t m new o h n q =
 
 -- a fill of an object of that part
 pub stands_after_fill : (s : System) (k : Kept) (d t : ℕ) (m : ObjectId) (at count : ℤ) (b : ℕ) (o : Part) (i : ℕ) → StandsFor s k → IsNext s k.past (entry d t (act.Fill m at count b) reply.Done) → numbered k.parts m.0 ≡ Some o → o.extent ≡ i + 1 →
-    StandsFor s (record k { past = entry d t (act.Fill m at count b) reply.Done ∷ k.past; extents = changed_at i (λ row. record row { bytes = option_map (written 0 (o.from + not_below_zero at) (not_below_zero count) (λ j. b)) row.bytes }) k.extents })
-unfolding is_birth makes_domain ended_by ended_by_act is_export exported_interface received_service received_parcel bound_by_act is_call asked_by queued_as is_take_of is_resume_of answered_by_act new_parts received_objects objects_in is_drop_of ended_object is_allocation makes_extent is_done new_threads is_choice reply_to object_part extent_row
+    StandsFor s (record k { past = entry d t (act.Fill m at count b) reply.Done ∷ k.past; extents = changed_at i (λ item. record item { bytes = option_map (written 0 (o.from + not_below_zero at) (not_below_zero count) (λ j. b)) item.bytes }) k.extents })
+unfolding is_birth makes_domain ended_by ended_by_act is_export exported_interface received_service received_parcel bound_by_act is_call asked_by queued_as is_take_of is_resume_of answered_by_act new_parts received_objects objects_in is_drop_of ended_object is_allocation makes_extent is_done new_threads is_choice reply_to object_part extent_record
 stands_after_fill s k d t m at count b o i h n q z =
     record {
       admitted = (n, h.admitted);
@@ -374,20 +374,20 @@ stands_after_fill s k d t m at count b o i h n q z =
     used : is_extent_in_use k.past o.extent ≡ true
     used = in_use k.past o.extent m.0 (record { part = o; is = is; extent = refl; valid = held.1; used = ByDomain d held.0 })
 
-    row_is : (let row : ExtentRow = record (extent_row k.past o.extent) { bytes = Some ((written 0 (o.from + not_below_zero at) (not_below_zero count) (λ j. b)) (extent_bytes k.past o.extent)) } in row) ≡ record (extent_row k.past o.extent) { bytes = option_map (written 0 (o.from + not_below_zero at) (not_below_zero count) (λ j. b)) (extent_row k.past o.extent).bytes }
-    row_is = ap (λ (on : Bool). let row : ExtentRow = record (extent_row k.past o.extent) { bytes = option_map (written 0 (o.from + not_below_zero at) (not_below_zero count) (λ j. b)) (kept_bytes on (extent_bytes k.past o.extent)) } in row) (sym used)
+    record_is : (let item : ExtentRecord = record (extent_record k.past o.extent) { bytes = Some ((written 0 (o.from + not_below_zero at) (not_below_zero count) (λ j. b)) (extent_bytes k.past o.extent)) } in item) ≡ record (extent_record k.past o.extent) { bytes = option_map (written 0 (o.from + not_below_zero at) (not_below_zero count) (λ j. b)) (extent_record k.past o.extent).bytes }
+    record_is = ap (λ (on : Bool). let item : ExtentRecord = record (extent_record k.past o.extent) { bytes = option_map (written 0 (o.from + not_below_zero at) (not_below_zero count) (λ j. b)) (kept_bytes on (extent_bytes k.past o.extent)) } in item) (sym used)
 
-    extents : changed_at i (λ row. record row { bytes = option_map (written 0 (o.from + not_below_zero at) (not_below_zero count) (λ j. b)) row.bytes }) k.extents ≡ extent_rows (entry d t (act.Fill m at count b) reply.Done ∷ k.past)
+    extents : changed_at i (λ item. record item { bytes = option_map (written 0 (o.from + not_below_zero at) (not_below_zero count) (λ j. b)) item.bytes }) k.extents ≡ extent_records (entry d t (act.Fill m at count b) reply.Done ∷ k.past)
     extents =
-        ap (changed_at i (λ (row : ExtentRow). record row { bytes = option_map (written 0 (o.from + not_below_zero at) (not_below_zero count) (λ j. b)) row.bytes })) h.extents
-        ∙ sym (set_changed i (λ (row : ExtentRow). record row { bytes = option_map (written 0 (o.from + not_below_zero at) (not_below_zero count) (λ j. b)) row.bytes }) (extent_rows k.past) (extent_row k.past o.extent) (extent_row_there k.past o.extent i z made))
-        ∙ ap (set (extent_rows k.past) i) (sym row_is)
+        ap (changed_at i (λ (item : ExtentRecord). record item { bytes = option_map (written 0 (o.from + not_below_zero at) (not_below_zero count) (λ j. b)) item.bytes })) h.extents
+        ∙ sym (set_changed i (λ (item : ExtentRecord). record item { bytes = option_map (written 0 (o.from + not_below_zero at) (not_below_zero count) (λ j. b)) item.bytes }) (extent_records k.past) (extent_record k.past o.extent) (extent_record_there k.past o.extent i z made))
+        ∙ ap (set (extent_records k.past) i) (sym record_is)
         ∙ sym (extents_written s (entry d t (act.Fill m at count b) reply.Done) k.past o.extent i ((written 0 (o.from + not_below_zero at) (not_below_zero count) (λ j. b)) (extent_bytes k.past o.extent)) (n, h.admitted) refl refl (no_drop (entry d t (act.Fill m at count b) reply.Done) (λ x. refl)) z made used (bytes_after_fill d t k.past m o at count b is made) (λ y u v. others_after_fill d t k.past m o at count b y is u v))
 
 -- a set in an object of that part
 pub stands_after_set : (s : System) (k : Kept) (d t : ℕ) (m : ObjectId) (at : ℤ) (width : ℕ) (v : ℤ) (o : Part) (i : ℕ) → StandsFor s k → IsNext s k.past (entry d t (act.Set m at width v) reply.Done) → numbered k.parts m.0 ≡ Some o → o.extent ≡ i + 1 →
-    StandsFor s (record k { past = entry d t (act.Set m at width v) reply.Done ∷ k.past; extents = changed_at i (λ row. record row { bytes = option_map (written 0 (o.from + not_below_zero at) width (low_byte v)) row.bytes }) k.extents })
-unfolding is_birth makes_domain ended_by ended_by_act is_export exported_interface received_service received_parcel bound_by_act is_call asked_by queued_as is_take_of is_resume_of answered_by_act new_parts received_objects objects_in is_drop_of ended_object is_allocation makes_extent is_done new_threads is_choice reply_to object_part extent_row
+    StandsFor s (record k { past = entry d t (act.Set m at width v) reply.Done ∷ k.past; extents = changed_at i (λ item. record item { bytes = option_map (written 0 (o.from + not_below_zero at) width (low_byte v)) item.bytes }) k.extents })
+unfolding is_birth makes_domain ended_by ended_by_act is_export exported_interface received_service received_parcel bound_by_act is_call asked_by queued_as is_take_of is_resume_of answered_by_act new_parts received_objects objects_in is_drop_of ended_object is_allocation makes_extent is_done new_threads is_choice reply_to object_part extent_record
 stands_after_set s k d t m at width v o i h n q z =
     record {
       admitted = (n, h.admitted);
@@ -415,20 +415,20 @@ stands_after_set s k d t m at width v o i h n q z =
     used : is_extent_in_use k.past o.extent ≡ true
     used = in_use k.past o.extent m.0 (record { part = o; is = is; extent = refl; valid = held.1; used = ByDomain d held.0 })
 
-    row_is : (let row : ExtentRow = record (extent_row k.past o.extent) { bytes = Some ((written 0 (o.from + not_below_zero at) width (low_byte v)) (extent_bytes k.past o.extent)) } in row) ≡ record (extent_row k.past o.extent) { bytes = option_map (written 0 (o.from + not_below_zero at) width (low_byte v)) (extent_row k.past o.extent).bytes }
-    row_is = ap (λ (on : Bool). let row : ExtentRow = record (extent_row k.past o.extent) { bytes = option_map (written 0 (o.from + not_below_zero at) width (low_byte v)) (kept_bytes on (extent_bytes k.past o.extent)) } in row) (sym used)
+    record_is : (let item : ExtentRecord = record (extent_record k.past o.extent) { bytes = Some ((written 0 (o.from + not_below_zero at) width (low_byte v)) (extent_bytes k.past o.extent)) } in item) ≡ record (extent_record k.past o.extent) { bytes = option_map (written 0 (o.from + not_below_zero at) width (low_byte v)) (extent_record k.past o.extent).bytes }
+    record_is = ap (λ (on : Bool). let item : ExtentRecord = record (extent_record k.past o.extent) { bytes = option_map (written 0 (o.from + not_below_zero at) width (low_byte v)) (kept_bytes on (extent_bytes k.past o.extent)) } in item) (sym used)
 
-    extents : changed_at i (λ row. record row { bytes = option_map (written 0 (o.from + not_below_zero at) width (low_byte v)) row.bytes }) k.extents ≡ extent_rows (entry d t (act.Set m at width v) reply.Done ∷ k.past)
+    extents : changed_at i (λ item. record item { bytes = option_map (written 0 (o.from + not_below_zero at) width (low_byte v)) item.bytes }) k.extents ≡ extent_records (entry d t (act.Set m at width v) reply.Done ∷ k.past)
     extents =
-        ap (changed_at i (λ (row : ExtentRow). record row { bytes = option_map (written 0 (o.from + not_below_zero at) width (low_byte v)) row.bytes })) h.extents
-        ∙ sym (set_changed i (λ (row : ExtentRow). record row { bytes = option_map (written 0 (o.from + not_below_zero at) width (low_byte v)) row.bytes }) (extent_rows k.past) (extent_row k.past o.extent) (extent_row_there k.past o.extent i z made))
-        ∙ ap (set (extent_rows k.past) i) (sym row_is)
+        ap (changed_at i (λ (item : ExtentRecord). record item { bytes = option_map (written 0 (o.from + not_below_zero at) width (low_byte v)) item.bytes })) h.extents
+        ∙ sym (set_changed i (λ (item : ExtentRecord). record item { bytes = option_map (written 0 (o.from + not_below_zero at) width (low_byte v)) item.bytes }) (extent_records k.past) (extent_record k.past o.extent) (extent_record_there k.past o.extent i z made))
+        ∙ ap (set (extent_records k.past) i) (sym record_is)
         ∙ sym (extents_written s (entry d t (act.Set m at width v) reply.Done) k.past o.extent i ((written 0 (o.from + not_below_zero at) width (low_byte v)) (extent_bytes k.past o.extent)) (n, h.admitted) refl refl (no_drop (entry d t (act.Set m at width v) reply.Done) (λ x. refl)) z made used (bytes_after_set d t k.past m o at width v is made) (λ y u x. others_after_set d t k.past m o at width v y is u x))
 
 -- a copy from one object's part into another's
 pub stands_after_copy : (s : System) (k : Kept) (d t : ℕ) (j : ObjectId) (j_at : ℤ) (m : ObjectId) (at count : ℤ) (source : Part) (o : Part) (i : ℕ) → StandsFor s k → IsNext s k.past (entry d t (act.Copy j j_at m at count) reply.Done) → numbered k.parts m.0 ≡ Some o → o.extent ≡ i + 1 → numbered k.parts j.0 ≡ Some source →
-    StandsFor s (record k { past = entry d t (act.Copy j j_at m at count) reply.Done ∷ k.past; extents = changed_at i (λ row. record row { bytes = option_map (written 0 (o.from + not_below_zero at) (not_below_zero count) (λ x. byte_at k.past source.extent (source.from + (not_below_zero j_at + x)))) row.bytes }) k.extents })
-unfolding is_birth makes_domain ended_by ended_by_act is_export exported_interface received_service received_parcel bound_by_act is_call asked_by queued_as is_take_of is_resume_of answered_by_act new_parts received_objects objects_in is_drop_of ended_object is_allocation makes_extent is_done new_threads is_choice reply_to object_part extent_row
+    StandsFor s (record k { past = entry d t (act.Copy j j_at m at count) reply.Done ∷ k.past; extents = changed_at i (λ item. record item { bytes = option_map (written 0 (o.from + not_below_zero at) (not_below_zero count) (λ x. byte_at k.past source.extent (source.from + (not_below_zero j_at + x)))) item.bytes }) k.extents })
+unfolding is_birth makes_domain ended_by ended_by_act is_export exported_interface received_service received_parcel bound_by_act is_call asked_by queued_as is_take_of is_resume_of answered_by_act new_parts received_objects objects_in is_drop_of ended_object is_allocation makes_extent is_done new_threads is_choice reply_to object_part extent_record
 stands_after_copy s k d t j j_at m at count source o i h n q z y =
     record {
       admitted = (n, h.admitted);
@@ -459,19 +459,19 @@ stands_after_copy s k d t j j_at m at count source o i h n q z y =
     used : is_extent_in_use k.past o.extent ≡ true
     used = in_use k.past o.extent m.0 (record { part = o; is = is; extent = refl; valid = held.1; used = ByDomain d held.0 })
 
-    row_is : (let row : ExtentRow = record (extent_row k.past o.extent) { bytes = Some ((written 0 (o.from + not_below_zero at) (not_below_zero count) (λ x. byte_at k.past source.extent (source.from + (not_below_zero j_at + x)))) (extent_bytes k.past o.extent)) } in row) ≡ record (extent_row k.past o.extent) { bytes = option_map (written 0 (o.from + not_below_zero at) (not_below_zero count) (λ x. byte_at k.past source.extent (source.from + (not_below_zero j_at + x)))) (extent_row k.past o.extent).bytes }
-    row_is = ap (λ (on : Bool). let row : ExtentRow = record (extent_row k.past o.extent) { bytes = option_map (written 0 (o.from + not_below_zero at) (not_below_zero count) (λ x. byte_at k.past source.extent (source.from + (not_below_zero j_at + x)))) (kept_bytes on (extent_bytes k.past o.extent)) } in row) (sym used)
+    record_is : (let item : ExtentRecord = record (extent_record k.past o.extent) { bytes = Some ((written 0 (o.from + not_below_zero at) (not_below_zero count) (λ x. byte_at k.past source.extent (source.from + (not_below_zero j_at + x)))) (extent_bytes k.past o.extent)) } in item) ≡ record (extent_record k.past o.extent) { bytes = option_map (written 0 (o.from + not_below_zero at) (not_below_zero count) (λ x. byte_at k.past source.extent (source.from + (not_below_zero j_at + x)))) (extent_record k.past o.extent).bytes }
+    record_is = ap (λ (on : Bool). let item : ExtentRecord = record (extent_record k.past o.extent) { bytes = option_map (written 0 (o.from + not_below_zero at) (not_below_zero count) (λ x. byte_at k.past source.extent (source.from + (not_below_zero j_at + x)))) (kept_bytes on (extent_bytes k.past o.extent)) } in item) (sym used)
 
-    extents : changed_at i (λ row. record row { bytes = option_map (written 0 (o.from + not_below_zero at) (not_below_zero count) (λ x. byte_at k.past source.extent (source.from + (not_below_zero j_at + x)))) row.bytes }) k.extents ≡ extent_rows (entry d t (act.Copy j j_at m at count) reply.Done ∷ k.past)
+    extents : changed_at i (λ item. record item { bytes = option_map (written 0 (o.from + not_below_zero at) (not_below_zero count) (λ x. byte_at k.past source.extent (source.from + (not_below_zero j_at + x)))) item.bytes }) k.extents ≡ extent_records (entry d t (act.Copy j j_at m at count) reply.Done ∷ k.past)
     extents =
-        ap (changed_at i (λ (row : ExtentRow). record row { bytes = option_map (written 0 (o.from + not_below_zero at) (not_below_zero count) (λ x. byte_at k.past source.extent (source.from + (not_below_zero j_at + x)))) row.bytes })) h.extents
-        ∙ sym (set_changed i (λ (row : ExtentRow). record row { bytes = option_map (written 0 (o.from + not_below_zero at) (not_below_zero count) (λ x. byte_at k.past source.extent (source.from + (not_below_zero j_at + x)))) row.bytes }) (extent_rows k.past) (extent_row k.past o.extent) (extent_row_there k.past o.extent i z made))
-        ∙ ap (set (extent_rows k.past) i) (sym row_is)
+        ap (changed_at i (λ (item : ExtentRecord). record item { bytes = option_map (written 0 (o.from + not_below_zero at) (not_below_zero count) (λ x. byte_at k.past source.extent (source.from + (not_below_zero j_at + x)))) item.bytes })) h.extents
+        ∙ sym (set_changed i (λ (item : ExtentRecord). record item { bytes = option_map (written 0 (o.from + not_below_zero at) (not_below_zero count) (λ x. byte_at k.past source.extent (source.from + (not_below_zero j_at + x)))) item.bytes }) (extent_records k.past) (extent_record k.past o.extent) (extent_record_there k.past o.extent i z made))
+        ∙ ap (set (extent_records k.past) i) (sym record_is)
         ∙ sym (extents_written s (entry d t (act.Copy j j_at m at count) reply.Done) k.past o.extent i ((written 0 (o.from + not_below_zero at) (not_below_zero count) (λ x. byte_at k.past source.extent (source.from + (not_below_zero j_at + x)))) (extent_bytes k.past o.extent)) (n, h.admitted) refl refl (no_drop (entry d t (act.Copy j j_at m at count) reply.Done) (λ x. refl)) z made used (bytes_after_copy d t k.past j j_at m o at count source is from_is made) (λ y u v. others_after_copy d t k.past j j_at m o at count y source is from_is u v))
 
 -- a release
 pub stands_after_release : (s : System) (k : Kept) (d t : ℕ) (m : ObjectId) → StandsFor s k → IsNext s k.past (entry d t (act.Release m) reply.Done) →
-    StandsFor s (record k { past = entry d t (act.Release m) reply.Done ∷ k.past; objects = (each_row (object_row_after (entry d t (act.Release m) reply.Done) (length k.domains) k.parts k.calls) k.objects); extents = each_row (λ x row. record row { bytes = if in_use_by k.parts (each_row (object_row_after (entry d t (act.Release m) reply.Done) (length k.domains) k.parts k.calls) k.objects) x then row.bytes else None }) k.extents; taken = each_from (λ i used. used && not (lies_in_one (freed_runs s (entry d t (act.Release m) reply.Done) k.past) i)) 0 k.taken })
+    StandsFor s (record k { past = entry d t (act.Release m) reply.Done ∷ k.past; objects = (each_record (object_record_after (entry d t (act.Release m) reply.Done) (length k.domains) k.parts k.calls) k.objects); extents = each_record (λ x item. record item { bytes = if in_use_by k.parts (each_record (object_record_after (entry d t (act.Release m) reply.Done) (length k.domains) k.parts k.calls) k.objects) x then item.bytes else None }) k.extents; taken = each_from (λ i used. used && not (lies_in_one (freed_runs s (entry d t (act.Release m) reply.Done) k.past) i)) 0 k.taken })
 unfolding is_birth makes_domain ended_by ended_by_act is_export exported_interface received_service received_parcel bound_by_act is_call asked_by queued_as is_take_of is_resume_of answered_by_act new_parts received_objects objects_in is_drop_of ended_object is_allocation makes_extent is_done new_threads is_choice
 stands_after_release s k d t m h n =
     record {
@@ -484,14 +484,14 @@ stands_after_release s k d t m h n =
       waiting = keeps_waiting s k (entry d t (act.Release m) reply.Done) h n (record { call = refl; ends = refl; take = λ x. refl; resume = λ x. refl; answer = λ x. refl });
       parts = keeps_parts s k (entry d t (act.Release m) reply.Done) h n refl;
       objects = (objects_stepped s k (entry d t (act.Release m) reply.Done) h n k.calls refl (keeps_calls s k (entry d t (act.Release m) reply.Done) h n (record { call = refl; ends = refl; take = λ x. refl; resume = λ x. refl; answer = λ x. refl })));
-      extents = extents_stepped s k (entry d t (act.Release m) reply.Done) h n k.parts (each_row (object_row_after (entry d t (act.Release m) reply.Done) (length k.domains) k.parts k.calls) k.objects) refl refl (keeps_parts s k (entry d t (act.Release m) reply.Done) h n refl) (objects_stepped s k (entry d t (act.Release m) reply.Done) h n k.calls refl (keeps_calls s k (entry d t (act.Release m) reply.Done) h n (record { call = refl; ends = refl; take = λ x. refl; resume = λ x. refl; answer = λ x. refl })));
+      extents = extents_stepped s k (entry d t (act.Release m) reply.Done) h n k.parts (each_record (object_record_after (entry d t (act.Release m) reply.Done) (length k.domains) k.parts k.calls) k.objects) refl refl (keeps_parts s k (entry d t (act.Release m) reply.Done) h n refl) (objects_stepped s k (entry d t (act.Release m) reply.Done) h n k.calls refl (keeps_calls s k (entry d t (act.Release m) reply.Done) h n (record { call = refl; ends = refl; take = λ x. refl; resume = λ x. refl; answer = λ x. refl })));
       taken = taken_freed s k (entry d t (act.Release m) reply.Done) h n refl refl;
     }
 
 -- an exit
 pub stands_after_exit : (s : System) (k : Kept) (d t : ℕ) (code : ℤ) (r : Reply) (i : ℕ) (names : List (List ℕ × ℕ)) → StandsFor s k → IsNext s k.past (entry d t (act.Exit code) r) → d ≡ i + 1 →
     ((x : List ℕ) → named_service names x ≡ option_and_then (λ y. if is_number (owner_of k.past y) d then None else Some y) (named_service k.names x)) →
-    StandsFor s (record k { past = entry d t (act.Exit code) r ∷ k.past; domains = changed_at i (λ row. record row { ended = Some (reason.Exit code) }) k.domains; services = each_row (λ nth row. record row { holders = portals_after (entry d t (act.Exit code) r) (length k.domains) nth row.holders }) k.services; names = names; calls = (map (ended_call (owned_by k.past d) d) k.calls); waiting = filter (λ c. not (owned_by k.past d (unwrap_or (service_of_call k.past c) 0))) k.waiting; objects = (each_row (object_row_after (entry d t (act.Exit code) r) (length k.domains) k.parts (map (ended_call (owned_by k.past d) d) k.calls)) k.objects); extents = each_row (λ x row. record row { bytes = if in_use_by k.parts (each_row (object_row_after (entry d t (act.Exit code) r) (length k.domains) k.parts (map (ended_call (owned_by k.past d) d) k.calls)) k.objects) x then row.bytes else None }) k.extents; taken = each_from (λ i used. used && not (lies_in_one (freed_runs s (entry d t (act.Exit code) r) k.past) i)) 0 k.taken })
+    StandsFor s (record k { past = entry d t (act.Exit code) r ∷ k.past; domains = changed_at i (λ item. record item { ended = Some (reason.Exit code) }) k.domains; services = each_record (λ nth item. record item { holders = portals_after (entry d t (act.Exit code) r) (length k.domains) nth item.holders }) k.services; names = names; calls = (map (ended_call (owned_by k.past d) d) k.calls); waiting = filter (λ c. not (owned_by k.past d (unwrap_or (service_of_call k.past c) 0))) k.waiting; objects = (each_record (object_record_after (entry d t (act.Exit code) r) (length k.domains) k.parts (map (ended_call (owned_by k.past d) d) k.calls)) k.objects); extents = each_record (λ x item. record item { bytes = if in_use_by k.parts (each_record (object_record_after (entry d t (act.Exit code) r) (length k.domains) k.parts (map (ended_call (owned_by k.past d) d) k.calls)) k.objects) x then item.bytes else None }) k.extents; taken = each_from (λ i used. used && not (lies_in_one (freed_runs s (entry d t (act.Exit code) r) k.past) i)) 0 k.taken })
 unfolding is_birth makes_domain ended_by ended_by_act is_export exported_interface received_service received_parcel bound_by_act is_call asked_by queued_as is_take_of is_resume_of answered_by_act new_parts received_objects objects_in is_drop_of ended_object is_allocation makes_extent is_done new_threads is_choice
 stands_after_exit s k d t code r i names h n q v =
     record {
@@ -504,14 +504,14 @@ stands_after_exit s k d t code r i names h n q v =
       waiting = ap (filter (λ c. not (owned_by k.past d (unwrap_or (service_of_call k.past c) 0)))) h.waiting ∙ sym (waiting_after_end k.past (entry d t (act.Exit code) r) d (record { why = (reason.Exit code); ends = refl; call = refl; take = λ x. refl; resume = λ x. refl; answer = λ x. refl }));
       parts = keeps_parts s k (entry d t (act.Exit code) r) h n refl;
       objects = (objects_stepped s k (entry d t (act.Exit code) r) h n (map (ended_call (owned_by k.past d) d) k.calls) refl (ap (map (ended_call (owned_by k.past d) d)) h.calls ∙ sym (calls_after_end s k.past (entry d t (act.Exit code) r) d h.admitted (record { why = (reason.Exit code); ends = refl; call = refl; take = λ x. refl; resume = λ x. refl; answer = λ x. refl }))));
-      extents = extents_stepped s k (entry d t (act.Exit code) r) h n k.parts (each_row (object_row_after (entry d t (act.Exit code) r) (length k.domains) k.parts (map (ended_call (owned_by k.past d) d) k.calls)) k.objects) refl (and_false (is_done r)) (keeps_parts s k (entry d t (act.Exit code) r) h n refl) (objects_stepped s k (entry d t (act.Exit code) r) h n (map (ended_call (owned_by k.past d) d) k.calls) refl (ap (map (ended_call (owned_by k.past d) d)) h.calls ∙ sym (calls_after_end s k.past (entry d t (act.Exit code) r) d h.admitted (record { why = (reason.Exit code); ends = refl; call = refl; take = λ x. refl; resume = λ x. refl; answer = λ x. refl }))));
+      extents = extents_stepped s k (entry d t (act.Exit code) r) h n k.parts (each_record (object_record_after (entry d t (act.Exit code) r) (length k.domains) k.parts (map (ended_call (owned_by k.past d) d) k.calls)) k.objects) refl (and_false (is_done r)) (keeps_parts s k (entry d t (act.Exit code) r) h n refl) (objects_stepped s k (entry d t (act.Exit code) r) h n (map (ended_call (owned_by k.past d) d) k.calls) refl (ap (map (ended_call (owned_by k.past d) d)) h.calls ∙ sym (calls_after_end s k.past (entry d t (act.Exit code) r) d h.admitted (record { why = (reason.Exit code); ends = refl; call = refl; take = λ x. refl; resume = λ x. refl; answer = λ x. refl }))));
       taken = taken_freed s k (entry d t (act.Exit code) r) h n refl refl;
     }
 
 -- an end
 pub stands_after_end : (s : System) (k : Kept) (d t : ℕ) (why : Reason) (r : Reply) (i : ℕ) (names : List (List ℕ × ℕ)) → StandsFor s k → IsNext s k.past (entry d t (act.End why) r) → d ≡ i + 1 →
     ((x : List ℕ) → named_service names x ≡ option_and_then (λ y. if is_number (owner_of k.past y) d then None else Some y) (named_service k.names x)) →
-    StandsFor s (record k { past = entry d t (act.End why) r ∷ k.past; domains = changed_at i (λ row. record row { ended = Some why }) k.domains; services = each_row (λ nth row. record row { holders = portals_after (entry d t (act.End why) r) (length k.domains) nth row.holders }) k.services; names = names; calls = (map (ended_call (owned_by k.past d) d) k.calls); waiting = filter (λ c. not (owned_by k.past d (unwrap_or (service_of_call k.past c) 0))) k.waiting; objects = (each_row (object_row_after (entry d t (act.End why) r) (length k.domains) k.parts (map (ended_call (owned_by k.past d) d) k.calls)) k.objects); extents = each_row (λ x row. record row { bytes = if in_use_by k.parts (each_row (object_row_after (entry d t (act.End why) r) (length k.domains) k.parts (map (ended_call (owned_by k.past d) d) k.calls)) k.objects) x then row.bytes else None }) k.extents; taken = each_from (λ i used. used && not (lies_in_one (freed_runs s (entry d t (act.End why) r) k.past) i)) 0 k.taken })
+    StandsFor s (record k { past = entry d t (act.End why) r ∷ k.past; domains = changed_at i (λ item. record item { ended = Some why }) k.domains; services = each_record (λ nth item. record item { holders = portals_after (entry d t (act.End why) r) (length k.domains) nth item.holders }) k.services; names = names; calls = (map (ended_call (owned_by k.past d) d) k.calls); waiting = filter (λ c. not (owned_by k.past d (unwrap_or (service_of_call k.past c) 0))) k.waiting; objects = (each_record (object_record_after (entry d t (act.End why) r) (length k.domains) k.parts (map (ended_call (owned_by k.past d) d) k.calls)) k.objects); extents = each_record (λ x item. record item { bytes = if in_use_by k.parts (each_record (object_record_after (entry d t (act.End why) r) (length k.domains) k.parts (map (ended_call (owned_by k.past d) d) k.calls)) k.objects) x then item.bytes else None }) k.extents; taken = each_from (λ i used. used && not (lies_in_one (freed_runs s (entry d t (act.End why) r) k.past) i)) 0 k.taken })
 unfolding is_birth makes_domain ended_by ended_by_act is_export exported_interface received_service received_parcel bound_by_act is_call asked_by queued_as is_take_of is_resume_of answered_by_act new_parts received_objects objects_in is_drop_of ended_object is_allocation makes_extent is_done new_threads is_choice
 stands_after_end s k d t why r i names h n q v =
     record {
@@ -524,14 +524,14 @@ stands_after_end s k d t why r i names h n q v =
       waiting = ap (filter (λ c. not (owned_by k.past d (unwrap_or (service_of_call k.past c) 0)))) h.waiting ∙ sym (waiting_after_end k.past (entry d t (act.End why) r) d (record { why = why; ends = refl; call = refl; take = λ x. refl; resume = λ x. refl; answer = λ x. refl }));
       parts = keeps_parts s k (entry d t (act.End why) r) h n refl;
       objects = (objects_stepped s k (entry d t (act.End why) r) h n (map (ended_call (owned_by k.past d) d) k.calls) refl (ap (map (ended_call (owned_by k.past d) d)) h.calls ∙ sym (calls_after_end s k.past (entry d t (act.End why) r) d h.admitted (record { why = why; ends = refl; call = refl; take = λ x. refl; resume = λ x. refl; answer = λ x. refl }))));
-      extents = extents_stepped s k (entry d t (act.End why) r) h n k.parts (each_row (object_row_after (entry d t (act.End why) r) (length k.domains) k.parts (map (ended_call (owned_by k.past d) d) k.calls)) k.objects) refl (and_false (is_done r)) (keeps_parts s k (entry d t (act.End why) r) h n refl) (objects_stepped s k (entry d t (act.End why) r) h n (map (ended_call (owned_by k.past d) d) k.calls) refl (ap (map (ended_call (owned_by k.past d) d)) h.calls ∙ sym (calls_after_end s k.past (entry d t (act.End why) r) d h.admitted (record { why = why; ends = refl; call = refl; take = λ x. refl; resume = λ x. refl; answer = λ x. refl }))));
+      extents = extents_stepped s k (entry d t (act.End why) r) h n k.parts (each_record (object_record_after (entry d t (act.End why) r) (length k.domains) k.parts (map (ended_call (owned_by k.past d) d) k.calls)) k.objects) refl (and_false (is_done r)) (keeps_parts s k (entry d t (act.End why) r) h n refl) (objects_stepped s k (entry d t (act.End why) r) h n (map (ended_call (owned_by k.past d) d) k.calls) refl (ap (map (ended_call (owned_by k.past d) d)) h.calls ∙ sym (calls_after_end s k.past (entry d t (act.End why) r) d h.admitted (record { why = why; ends = refl; call = refl; take = λ x. refl; resume = λ x. refl; answer = λ x. refl }))));
       taken = taken_freed s k (entry d t (act.End why) r) h n refl refl;
     }
 
 -- a done kill
 pub stands_after_kill : (s : System) (k : Kept) (d t : ℕ) (j : ℤ) (i : ℕ) (names : List (List ℕ × ℕ)) → StandsFor s k → IsNext s k.past (entry d t (act.Kill j) reply.Done) → (not_below_zero j) ≡ i + 1 →
     ((x : List ℕ) → named_service names x ≡ option_and_then (λ y. if is_number (owner_of k.past y) (not_below_zero j) then None else Some y) (named_service k.names x)) →
-    StandsFor s (record k { past = entry d t (act.Kill j) reply.Done ∷ k.past; domains = changed_at i (λ row. record row { ended = Some reason.Killed }) k.domains; services = each_row (λ nth row. record row { holders = portals_after (entry d t (act.Kill j) reply.Done) (length k.domains) nth row.holders }) k.services; names = names; calls = (map (ended_call (owned_by k.past (not_below_zero j)) (not_below_zero j)) k.calls); waiting = filter (λ c. not (owned_by k.past (not_below_zero j) (unwrap_or (service_of_call k.past c) 0))) k.waiting; objects = (each_row (object_row_after (entry d t (act.Kill j) reply.Done) (length k.domains) k.parts (map (ended_call (owned_by k.past (not_below_zero j)) (not_below_zero j)) k.calls)) k.objects); extents = each_row (λ x row. record row { bytes = if in_use_by k.parts (each_row (object_row_after (entry d t (act.Kill j) reply.Done) (length k.domains) k.parts (map (ended_call (owned_by k.past (not_below_zero j)) (not_below_zero j)) k.calls)) k.objects) x then row.bytes else None }) k.extents; taken = each_from (λ i used. used && not (lies_in_one (freed_runs s (entry d t (act.Kill j) reply.Done) k.past) i)) 0 k.taken })
+    StandsFor s (record k { past = entry d t (act.Kill j) reply.Done ∷ k.past; domains = changed_at i (λ item. record item { ended = Some reason.Killed }) k.domains; services = each_record (λ nth item. record item { holders = portals_after (entry d t (act.Kill j) reply.Done) (length k.domains) nth item.holders }) k.services; names = names; calls = (map (ended_call (owned_by k.past (not_below_zero j)) (not_below_zero j)) k.calls); waiting = filter (λ c. not (owned_by k.past (not_below_zero j) (unwrap_or (service_of_call k.past c) 0))) k.waiting; objects = (each_record (object_record_after (entry d t (act.Kill j) reply.Done) (length k.domains) k.parts (map (ended_call (owned_by k.past (not_below_zero j)) (not_below_zero j)) k.calls)) k.objects); extents = each_record (λ x item. record item { bytes = if in_use_by k.parts (each_record (object_record_after (entry d t (act.Kill j) reply.Done) (length k.domains) k.parts (map (ended_call (owned_by k.past (not_below_zero j)) (not_below_zero j)) k.calls)) k.objects) x then item.bytes else None }) k.extents; taken = each_from (λ i used. used && not (lies_in_one (freed_runs s (entry d t (act.Kill j) reply.Done) k.past) i)) 0 k.taken })
 unfolding is_birth makes_domain ended_by ended_by_act is_export exported_interface received_service received_parcel bound_by_act is_call asked_by queued_as is_take_of is_resume_of answered_by_act new_parts received_objects objects_in is_drop_of ended_object is_allocation makes_extent is_done new_threads is_choice
 stands_after_kill s k d t j i names h n q v =
     record {
@@ -544,6 +544,6 @@ stands_after_kill s k d t j i names h n q v =
       waiting = ap (filter (λ c. not (owned_by k.past (not_below_zero j) (unwrap_or (service_of_call k.past c) 0)))) h.waiting ∙ sym (waiting_after_end k.past (entry d t (act.Kill j) reply.Done) (not_below_zero j) (record { why = reason.Killed; ends = refl; call = refl; take = λ x. refl; resume = λ x. refl; answer = λ x. refl }));
       parts = keeps_parts s k (entry d t (act.Kill j) reply.Done) h n refl;
       objects = (objects_stepped s k (entry d t (act.Kill j) reply.Done) h n (map (ended_call (owned_by k.past (not_below_zero j)) (not_below_zero j)) k.calls) refl (ap (map (ended_call (owned_by k.past (not_below_zero j)) (not_below_zero j))) h.calls ∙ sym (calls_after_end s k.past (entry d t (act.Kill j) reply.Done) (not_below_zero j) h.admitted (record { why = reason.Killed; ends = refl; call = refl; take = λ x. refl; resume = λ x. refl; answer = λ x. refl }))));
-      extents = extents_stepped s k (entry d t (act.Kill j) reply.Done) h n k.parts (each_row (object_row_after (entry d t (act.Kill j) reply.Done) (length k.domains) k.parts (map (ended_call (owned_by k.past (not_below_zero j)) (not_below_zero j)) k.calls)) k.objects) refl refl (keeps_parts s k (entry d t (act.Kill j) reply.Done) h n refl) (objects_stepped s k (entry d t (act.Kill j) reply.Done) h n (map (ended_call (owned_by k.past (not_below_zero j)) (not_below_zero j)) k.calls) refl (ap (map (ended_call (owned_by k.past (not_below_zero j)) (not_below_zero j))) h.calls ∙ sym (calls_after_end s k.past (entry d t (act.Kill j) reply.Done) (not_below_zero j) h.admitted (record { why = reason.Killed; ends = refl; call = refl; take = λ x. refl; resume = λ x. refl; answer = λ x. refl }))));
+      extents = extents_stepped s k (entry d t (act.Kill j) reply.Done) h n k.parts (each_record (object_record_after (entry d t (act.Kill j) reply.Done) (length k.domains) k.parts (map (ended_call (owned_by k.past (not_below_zero j)) (not_below_zero j)) k.calls)) k.objects) refl refl (keeps_parts s k (entry d t (act.Kill j) reply.Done) h n refl) (objects_stepped s k (entry d t (act.Kill j) reply.Done) h n (map (ended_call (owned_by k.past (not_below_zero j)) (not_below_zero j)) k.calls) refl (ap (map (ended_call (owned_by k.past (not_below_zero j)) (not_below_zero j))) h.calls ∙ sym (calls_after_end s k.past (entry d t (act.Kill j) reply.Done) (not_below_zero j) h.admitted (record { why = reason.Killed; ends = refl; call = refl; take = λ x. refl; resume = λ x. refl; answer = λ x. refl }))));
       taken = taken_freed s k (entry d t (act.Kill j) reply.Done) h n refl refl;
     }

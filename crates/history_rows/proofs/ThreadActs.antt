@@ -18,14 +18,14 @@ use Rattle.jx_base.specs.Histories.{Past, is_own}
 use Rattle.jx_model.specs.Domains.{is_birth, domains_made}
 use Rattle.jx_model.specs.Threads.{service_threads, new_threads_of, new_threads, threads_of, is_of_thread, thread_state, is_running_state, served_after, state_after, serving_state}
 use Rattle.jx_model.specs.Permits.{is_choice, choice_thread}
-use Rattle.jx_model.specs.Tables.{ThreadRow, thread_row, thread_rows}
+use Rattle.jx_model.specs.Tables.{ThreadRecord, thread_record, thread_records}
 use Rattle.jx_model.specs.Legal.{IsNext, IsAdmittedPast}
 use Rattle.jx_base.proofs.BasicLaws.{eq_of}
 use Rattle.jx_model.proofs.Acting.{acting_cases, domain_cases, acting_within, running_runs}
-use Rattle.history_rows.proofs.Rows.{is_that, rows_get, get_range}
+use Rattle.history_rows.proofs.Records.{is_that, records_get, get_range}
 use Rattle.history_rows.proofs.Actors.{IsMade, live_made, actor_live}
-use Rattle.history_rows.proofs.ThreadRows.{thread_row_after, service_of_thread, runs_as, leaves_thread, adds_none, threads_of_own, idle_row}
-use Rattle.history_rows.proofs.ThreadTable.{thread_table, threads_after, threads_kept, threads_after_birth, threads_added, rows_left, first_rows}
+use Rattle.history_rows.proofs.ThreadRecords.{thread_record_after, service_of_thread, runs_as, leaves_thread, adds_none, threads_of_own, idle_record}
+use Rattle.history_rows.proofs.ThreadTable.{thread_table, threads_after, threads_kept, threads_after_birth, threads_added, records_left, first_records}
 use Rattle.history_rows.proofs.Every.{changed_at, set_changed}
 
 -- ---- the acting thread
@@ -68,7 +68,7 @@ actor_made s past e n l = elim (actor_live s past e n) [ inl z ↦ absurd (omega
 -- a running thread's act that leaves it running leaves all threads
 pub threads_left : (s : System) (past : Past) (e : Entry) → IsNext s past e → is_birth e ≡ false → new_threads e.act e.reply ≡ [] → is_choice e.act ≡ false → leaves_thread e.act e.reply ≡ true → thread_table (e ∷ past) ≡ thread_table past
 threads_left s past e n b h c l =
-    threads_kept e past b (λ v. rows_left e past e.domain.0 e.thread.0 (adds_none e e.domain.0 h) (own_thread e) (thread_there s past e n) (runs_now s past e n c v) l)
+    threads_kept e past b (λ v. records_left e past e.domain.0 e.thread.0 (adds_none e e.domain.0 h) (own_thread e) (thread_there s past e n) (runs_now s past e n c v) l)
 
 -- an act of Domain Zero leaves all threads
 pub threads_of_zero : (e : Entry) (past : Past) → is_birth e ≡ false → e.domain.0 ≡ 0 → thread_table (e ∷ past) ≡ thread_table past
@@ -76,45 +76,45 @@ threads_of_zero e past b z = threads_kept e past b (λ v. absurd (omega (arith, 
 
 -- ---- acts that change their thread
 
--- the table of the threads with the row of one thread changed; Domain Zero has none there
-abbrev pub own_changed : ℕ → ℕ → (ThreadRow → ThreadRow) → List (List ThreadRow) → List (List ThreadRow)
+-- the table of the threads with the record of one thread changed; Domain Zero has none there
+abbrev pub own_changed : ℕ → ℕ → (ThreadRecord → ThreadRecord) → List (List ThreadRecord) → List (List ThreadRecord)
 own_changed zero t f table = table
 own_changed (suc i) t f table = changed_at i (changed_at t f) table
 
-row_there : (past : Past) (d t : ℕ) → t ≤ length (service_threads past d) → slice_get (thread_rows past d) t ≡ Some (thread_row past d t)
-unfolding thread_rows threads_of
-row_there past d t l = get_range (thread_row past d) 0 (length (service_threads past d) + 1) t (omega (arith, l)) ∙ ap (λ (k : ℕ). Some (thread_row past d k)) (omega arith)
+record_there : (past : Past) (d t : ℕ) → t ≤ length (service_threads past d) → slice_get (thread_records past d) t ≡ Some (thread_record past d t)
+unfolding thread_records threads_of
+record_there past d t l = get_range (thread_record past d) 0 (length (service_threads past d) + 1) t (omega (arith, l)) ∙ ap (λ (k : ℕ). Some (thread_record past d k)) (omega arith)
 
--- any act that adds no threads and makes no domain changes the row of its thread alone
+-- any act that adds no threads and makes no domain changes the record of its thread alone
 pub threads_stepped : (s : System) (past : Past) (e : Entry) → IsNext s past e → is_birth e ≡ false → new_threads e.act e.reply ≡ [] →
-    thread_table (e ∷ past) ≡ own_changed e.domain.0 e.thread.0 (λ row. thread_row_after (service_of_thread past e.domain.0 e.thread.0) row e.act e.reply) (thread_table past)
+    thread_table (e ∷ past) ≡ own_changed e.domain.0 e.thread.0 (λ item. thread_record_after (service_of_thread past e.domain.0 e.thread.0) item e.act e.reply) (thread_table past)
 threads_stepped s past e n b h = by e.domain.0 refl
   where
-    own : (d : ℕ) → e.domain.0 ≡ d → 1 ≤ d → thread_rows (e ∷ past) d ≡ changed_at e.thread.0 (λ row. thread_row_after (service_of_thread past d e.thread.0) row e.act e.reply) (thread_rows past d)
+    own : (d : ℕ) → e.domain.0 ≡ d → 1 ≤ d → thread_records (e ∷ past) d ≡ changed_at e.thread.0 (λ item. thread_record_after (service_of_thread past d e.thread.0) item e.act e.reply) (thread_records past d)
     own d q l =
         let w = subst (λ (k : ℕ). e.thread.0 ≤ length (service_threads past k)) q (thread_there s past e n) in
         threads_of_own e past d e.thread.0 (adds_none e d h) (subst (λ (k : ℕ). is_of_thread k e.thread.0 e ≡ true) q (own_thread e)) w
-        ∙ set_changed e.thread.0 (λ row. thread_row_after (service_of_thread past d e.thread.0) row e.act e.reply) (thread_rows past d) (thread_row past d e.thread.0) (row_there past d e.thread.0 w)
+        ∙ set_changed e.thread.0 (λ item. thread_record_after (service_of_thread past d e.thread.0) item e.act e.reply) (thread_records past d) (thread_record past d e.thread.0) (record_there past d e.thread.0 w)
 
-    by : (d : ℕ) → e.domain.0 ≡ d → thread_table (e ∷ past) ≡ own_changed d e.thread.0 (λ row. thread_row_after (service_of_thread past d e.thread.0) row e.act e.reply) (thread_table past)
+    by : (d : ℕ) → e.domain.0 ≡ d → thread_table (e ∷ past) ≡ own_changed d e.thread.0 (λ item. thread_record_after (service_of_thread past d e.thread.0) item e.act e.reply) (thread_table past)
     by zero q = threads_of_zero e past b q
     by (suc i) q =
         let m = actor_made s past e n (omega (arith, q)) in
         threads_after e past (suc i) i b q (omega arith) (omega (arith, m.high, q))
         ∙ ap (set (thread_table past) i) (own (suc i) q (omega arith))
-        ∙ set_changed i (changed_at e.thread.0 (λ row. thread_row_after (service_of_thread past (suc i) e.thread.0) row e.act e.reply)) (thread_table past) (thread_rows past (suc i)) (rows_get (thread_rows past) (domains_made past) (suc i) i (omega arith) (omega (arith, m.high, q)))
+        ∙ set_changed i (changed_at e.thread.0 (λ item. thread_record_after (service_of_thread past (suc i) e.thread.0) item e.act e.reply)) (thread_table past) (thread_records past (suc i)) (records_get (thread_records past) (domains_made past) (suc i) i (omega arith) (omega (arith, m.high, q)))
 
 -- ---- births and exports
 
--- an act that makes a domain adds the rows of its first thread
-pub threads_born : (s : System) (past : Past) (e : Entry) → IsAdmittedPast s (e ∷ past) → is_birth e ≡ true → new_threads e.act e.reply ≡ [] → is_choice e.act ≡ false → leaves_thread e.act e.reply ≡ true → thread_table (e ∷ past) ≡ thread_table past ++ first_rows ∷ []
+-- an act that makes a domain adds the records of its first thread
+pub threads_born : (s : System) (past : Past) (e : Entry) → IsAdmittedPast s (e ∷ past) → is_birth e ≡ true → new_threads e.act e.reply ≡ [] → is_choice e.act ≡ false → leaves_thread e.act e.reply ≡ true → thread_table (e ∷ past) ≡ thread_table past ++ first_records ∷ []
 threads_born s past e a b h c l =
-    threads_after_birth s e past a b (λ v. rows_left e past e.domain.0 e.thread.0 (adds_none e e.domain.0 h) (own_thread e) (thread_there s past e a.0) (runs_now s past e a.0 c v) l)
+    threads_after_birth s e past a b (λ v. records_left e past e.domain.0 e.thread.0 (adds_none e e.domain.0 h) (own_thread e) (thread_there s past e a.0) (runs_now s past e a.0 c v) l)
 
 -- the table of the threads with idle ones added to a domain
-abbrev pub own_added : ℕ → List ServiceId → List (List ThreadRow) → List (List ThreadRow)
+abbrev pub own_added : ℕ → List ServiceId → List (List ThreadRecord) → List (List ThreadRecord)
 own_added zero new table = table
-own_added (suc i) new table = changed_at i (λ rows. rows ++ map idle_row new) table
+own_added (suc i) new table = changed_at i (λ items. items ++ map idle_record new) table
 
 -- an export adds idle threads to its domain
 pub threads_exported : (s : System) (past : Past) (e : Entry) → IsAdmittedPast s (e ∷ past) → is_birth e ≡ false → is_choice e.act ≡ false → leaves_thread e.act e.reply ≡ true →
@@ -134,47 +134,47 @@ threads_exported s past e a b c l = by e.domain.0 refl
         ∙ ap (set (thread_table past) i)
         (threads_added s e past (suc i) e.thread.0 a (subst (λ (k : ℕ). is_of_thread k e.thread.0 e ≡ true) q (own_thread e)) w
         (subst (λ (k : ℕ). passes is_running_state (thread_state past k e.thread.0) ≡ true) q (runs_now s past e a.0 c (omega (arith, q)))) l
-        ∙ ap (λ (xs : List ServiceId). thread_rows past (suc i) ++ map idle_row xs) (new (suc i) q))
-        ∙ set_changed i (λ rows. rows ++ map idle_row (new_threads e.act e.reply)) (thread_table past) (thread_rows past (suc i)) (rows_get (thread_rows past) (domains_made past) (suc i) i (omega arith) (omega (arith, m.high, q)))
+        ∙ ap (λ (xs : List ServiceId). thread_records past (suc i) ++ map idle_record xs) (new (suc i) q))
+        ∙ set_changed i (λ items. items ++ map idle_record (new_threads e.act e.reply)) (thread_table past) (thread_records past (suc i)) (records_get (thread_records past) (domains_made past) (suc i) i (omega arith) (omega (arith, m.high, q)))
 
--- ---- what each act makes of its thread's row
+-- ---- what each act makes of its thread's record
 
 -- a queued call: it waits
-pub row_after_call : (k : Option ServiceId) (row : ThreadRow) (s : ServiceId) (m : MethodId) (p : Parcel) (c : CallId) → thread_row_after k row (act.Call s m p) (reply.Queued c) ≡ record row { state = thread.Waiting c }
+pub record_after_call : (k : Option ServiceId) (item : ThreadRecord) (s : ServiceId) (m : MethodId) (p : Parcel) (c : CallId) → thread_record_after k item (act.Call s m p) (reply.Queued c) ≡ record item { state = thread.Waiting c }
 unfolding state_after served_after
-row_after_call k row s m p c = refl
+record_after_call k item s m p c = refl
 
 -- a take: it serves the call
-pub row_after_take : (k : ServiceId) (row : ThreadRow) (c : CallId) (r : Reply) → thread_row_after (Some k) row (act.Take c) r ≡ record { state = thread.Serving c; serves = Some c }
+pub record_after_take : (k : ServiceId) (item : ThreadRecord) (c : CallId) (r : Reply) → thread_record_after (Some k) item (act.Take c) r ≡ record { state = thread.Serving c; serves = Some c }
 unfolding state_after served_after serving_state
-row_after_take k row c r = refl
+record_after_take k item c r = refl
 
 -- a return or throw: it is idle again
-pub row_after_return : (k : ServiceId) (row : ThreadRow) (c : CallId) (p : Parcel) (r : Reply) → thread_row_after (Some k) row (act.Return c p) r ≡ record { state = thread.Idle k; serves = None }
+pub record_after_return : (k : ServiceId) (item : ThreadRecord) (c : CallId) (p : Parcel) (r : Reply) → thread_record_after (Some k) item (act.Return c p) r ≡ record { state = thread.Idle k; serves = None }
 unfolding state_after served_after serving_state
-row_after_return k row c p r = refl
+record_after_return k item c p r = refl
 
 -- the same after a throw
-pub row_after_throw : (k : ServiceId) (row : ThreadRow) (c : CallId) (p : Parcel) (r : Reply) → thread_row_after (Some k) row (act.Throw c p) r ≡ record { state = thread.Idle k; serves = None }
+pub record_after_throw : (k : ServiceId) (item : ThreadRecord) (c : CallId) (p : Parcel) (r : Reply) → thread_record_after (Some k) item (act.Throw c p) r ≡ record { state = thread.Idle k; serves = None }
 unfolding state_after served_after serving_state
-row_after_throw k row c p r = refl
+record_after_throw k item c p r = refl
 
 -- a yield
-pub row_after_yield : (k : Option ServiceId) (row : ThreadRow) (r : Reply) → thread_row_after k row act.Yield r ≡ record row { state = thread.Yielded }
+pub record_after_yield : (k : Option ServiceId) (item : ThreadRecord) (r : Reply) → thread_record_after k item act.Yield r ≡ record item { state = thread.Yielded }
 unfolding state_after served_after
-row_after_yield k row r = refl
+record_after_yield k item r = refl
 
 -- an end of the thread
-pub row_after_end_thread : (k : Option ServiceId) (row : ThreadRow) (c : Option ClassId) (r : Reply) → thread_row_after k row (act.EndThread c) r ≡ record row { state = thread.Over }
+pub record_after_end_thread : (k : Option ServiceId) (item : ThreadRecord) (c : Option ClassId) (r : Reply) → thread_record_after k item (act.EndThread c) r ≡ record item { state = thread.Over }
 unfolding state_after served_after
-row_after_end_thread k row c r = refl
+record_after_end_thread k item c r = refl
 
 -- a resume: it runs as before it waited
-pub row_after_resume : (k : Option ServiceId) (row : ThreadRow) (c : CallId) (r : Reply) → thread_row_after k row (act.Resume c) r ≡ record row { state = runs_as k row.serves }
+pub record_after_resume : (k : Option ServiceId) (item : ThreadRecord) (c : CallId) (r : Reply) → thread_record_after k item (act.Resume c) r ≡ record item { state = runs_as k item.serves }
 unfolding state_after served_after
-row_after_resume k row c r = refl
+record_after_resume k item c r = refl
 
 -- a go: it runs as before it yielded
-pub row_after_go : (k : Option ServiceId) (row : ThreadRow) (t : ThreadId) (r : Reply) → thread_row_after k row (act.Go t) r ≡ record row { state = runs_as k row.serves }
+pub record_after_go : (k : Option ServiceId) (item : ThreadRecord) (t : ThreadId) (r : Reply) → thread_record_after k item (act.Go t) r ≡ record item { state = runs_as k item.serves }
 unfolding state_after served_after
-row_after_go k row t r = refl
+record_after_go k item t r = refl

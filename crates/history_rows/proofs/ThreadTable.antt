@@ -11,83 +11,83 @@ use Rattle.jx_base.specs.Basics.{up_to, passes}
 use Rattle.jx_base.specs.Histories.{Past, is_own}
 use Rattle.jx_model.specs.Domains.{is_birth, domains_made}
 use Rattle.jx_model.specs.Threads.{service_threads, new_threads_of, threads_of, is_of_thread, state_by_last, serving_state, thread_state, is_running_state}
-use Rattle.jx_model.specs.Tables.{ThreadRow, thread_row, thread_rows, state_or_over}
+use Rattle.jx_model.specs.Tables.{ThreadRecord, thread_record, thread_records, state_or_over}
 use Rattle.jx_model.specs.Legal.{IsNext, IsAdmittedPast}
 use Rattle.jx_base.proofs.BasicLaws.{ap2, ap3, eq_of, range_append}
 use Rattle.jx_base.proofs.NthEntries.{count_new, count_same}
 use Rattle.jx_model.proofs.OneThread.{serves_same, last_same, state_with}
-use Rattle.history_rows.proofs.Rows.{map_range, set_range, rows_same, rows_more, rows_set, not_that, same_or_not}
-use Rattle.history_rows.proofs.ThreadRows.{service_of_thread, leaves_thread, threads_of_own, threads_of_other, idle_row, row_left, thread_row_own, thread_row_other, not_this}
+use Rattle.history_rows.proofs.Records.{map_range, set_range, records_same, records_more, records_set, not_that, same_or_not}
+use Rattle.history_rows.proofs.ThreadRecords.{service_of_thread, leaves_thread, threads_of_own, threads_of_other, idle_record, record_left, thread_record_own, thread_record_other, not_this}
 use Rattle.history_rows.proofs.Actors.{unmade_acts}
 use Rattle.history_rows.proofs.Absent.{IsAbsent, absent, unmade_absent, unmade_threads, stranger}
 use Rattle.std.specs.Option.{option_map}
 
 -- all threads, by domain
-abbrev pub thread_table : Past → List (List ThreadRow)
-thread_table past = map (thread_rows past) (up_to (domains_made past))
+abbrev pub thread_table : Past → List (List ThreadRecord)
+thread_table past = map (thread_records past) (up_to (domains_made past))
 
 own_of : (e : Entry) (d : ℕ) → e.domain.0 ≢ d → is_own d e ≡ false
 unfolding is_own
 own_of e d h = not_that e.domain.0 d (λ q. h (sym q))
 
--- an entry of a made domain sets that domain's rows
+-- an entry of a made domain sets that domain's records
 pub threads_after : (e : Entry) (past : Past) (d i : ℕ) → is_birth e ≡ false → e.domain.0 ≡ d → d ≡ i + 1 → d ≤ domains_made past →
-    thread_table (e ∷ past) ≡ set (thread_table past) i (thread_rows (e ∷ past) d)
+    thread_table (e ∷ past) ≡ set (thread_table past) i (thread_records (e ∷ past) d)
 threads_after e past d i b q z u =
-    ap (λ (k : ℕ). map (thread_rows (e ∷ past)) (up_to k)) (count_same is_birth e past b)
-    ∙ rows_set (thread_rows past) (thread_rows (e ∷ past)) (domains_made past) d i z u (λ k l v n. sym (threads_of_other e past k (own_of e k (λ x. n (sym x ∙ q)))))
+    ap (λ (k : ℕ). map (thread_records (e ∷ past)) (up_to k)) (count_same is_birth e past b)
+    ∙ records_set (thread_records past) (thread_records (e ∷ past)) (domains_made past) d i z u (λ k l v n. sym (threads_of_other e past k (own_of e k (λ x. n (sym x ∙ q)))))
 
--- the rows of each domain stay where those of the entry's domain do
-pub rows_kept : (e : Entry) (past : Past) (k : ℕ) → 1 ≤ k → (1 ≤ e.domain.0 → thread_rows (e ∷ past) e.domain.0 ≡ thread_rows past e.domain.0) → thread_rows (e ∷ past) k ≡ thread_rows past k
+-- the records of each domain stay where those of the entry's domain do
+pub records_kept : (e : Entry) (past : Past) (k : ℕ) → 1 ≤ k → (1 ≤ e.domain.0 → thread_records (e ∷ past) e.domain.0 ≡ thread_records past e.domain.0) → thread_records (e ∷ past) k ≡ thread_records past k
 unfolding is_own
-rows_kept e past k l h = by (e.domain.0 == k) refl
+records_kept e past k l h = by (e.domain.0 == k) refl
   where
-    by : (b : Bool) → (e.domain.0 == k) ≡ b → thread_rows (e ∷ past) k ≡ thread_rows past k
+    by : (b : Bool) → (e.domain.0 == k) ≡ b → thread_records (e ∷ past) k ≡ thread_records past k
     by false q = threads_of_other e past k q
     by true q = let z = eq_of e.domain.0 k q in
-        subst (λ (n : ℕ). thread_rows (e ∷ past) n ≡ thread_rows past n) z (h (omega (arith, z, l)))
+        subst (λ (n : ℕ). thread_records (e ∷ past) n ≡ thread_records past n) z (h (omega (arith, z, l)))
 
--- an entry that changes no row of its domain changes none
-pub threads_kept : (e : Entry) (past : Past) → is_birth e ≡ false → (1 ≤ e.domain.0 → thread_rows (e ∷ past) e.domain.0 ≡ thread_rows past e.domain.0) → thread_table (e ∷ past) ≡ thread_table past
+-- an entry that changes no record of its domain changes none
+pub threads_kept : (e : Entry) (past : Past) → is_birth e ≡ false → (1 ≤ e.domain.0 → thread_records (e ∷ past) e.domain.0 ≡ thread_records past e.domain.0) → thread_table (e ∷ past) ≡ thread_table past
 threads_kept e past b h =
-    ap (λ (k : ℕ). map (thread_rows (e ∷ past)) (up_to k)) (count_same is_birth e past b)
-    ∙ rows_same (thread_rows (e ∷ past)) (thread_rows past) (domains_made past) (λ k l u. rows_kept e past k l h)
+    ap (λ (k : ℕ). map (thread_records (e ∷ past)) (up_to k)) (count_same is_birth e past b)
+    ∙ records_same (thread_records (e ∷ past)) (thread_records past) (domains_made past) (λ k l u. records_kept e past k l h)
 
 set_itself : {A : Type 0} (f : ℕ → A) (a n i : ℕ) → i < n → set (map f (range_with_len a n)) i (f (a + i)) ≡ map f (range_with_len a n)
 set_itself f a n i l = sym (set_range f f a n i l (λ k x y z. refl))
 
--- an act of a running thread that leaves it running leaves its domain's rows
-pub rows_left : (e : Entry) (past : Past) (d t : ℕ) → new_threads_of d e ≡ [] → is_of_thread d t e ≡ true → t ≤ length (service_threads past d) →
-    passes is_running_state (thread_state past d t) ≡ true → leaves_thread e.act e.reply ≡ true → thread_rows (e ∷ past) d ≡ thread_rows past d
-unfolding thread_rows threads_of
-rows_left e past d t n h l r k =
+-- an act of a running thread that leaves it running leaves its domain's records
+pub records_left : (e : Entry) (past : Past) (d t : ℕ) → new_threads_of d e ≡ [] → is_of_thread d t e ≡ true → t ≤ length (service_threads past d) →
+    passes is_running_state (thread_state past d t) ≡ true → leaves_thread e.act e.reply ≡ true → thread_records (e ∷ past) d ≡ thread_records past d
+unfolding thread_records threads_of
+records_left e past d t n h l r k =
     threads_of_own e past d t n h l
-    ∙ ap (set (map (thread_row past d) (range_with_len 0 (length (service_threads past d) + 1))) t) (row_left past d t e.act e.reply r k ∙ ap (thread_row past d) (omega arith))
-    ∙ set_itself (thread_row past d) 0 (length (service_threads past d) + 1) t (omega (arith, l))
+    ∙ ap (set (map (thread_record past d) (range_with_len 0 (length (service_threads past d) + 1))) t) (record_left past d t e.act e.reply r k ∙ ap (thread_record past d) (omega arith))
+    ∙ set_itself (thread_record past d) 0 (length (service_threads past d) + 1) t (omega (arith, l))
 
 -- ---- a new domain
 
--- the rows of a domain that was just made
-abbrev pub first_rows : List ThreadRow
-first_rows = record { state = thread.Running; serves = None } ∷ []
+-- the records of a domain that was just made
+abbrev pub first_records : List ThreadRecord
+first_records = record { state = thread.Running; serves = None } ∷ []
 
-new_rows : (past : Past) (d : ℕ) → service_threads past d ≡ [] → IsAbsent past d 0 → thread_rows past d ≡ first_rows
-unfolding thread_rows threads_of thread_row thread_state state_or_over state_by_last
-new_rows past d h a =
-    ap (λ (ss : List ServiceId). map (thread_row past d) (range_with_len 0 (length ss + 1))) h
-    ∙ ap2 (λ (o : Option Entry) (c : Option CallId). let row : ThreadRow = record { state = state_by_last thread.Running o; serves = c } in row ∷ []) a.last a.serves
+new_records : (past : Past) (d : ℕ) → service_threads past d ≡ [] → IsAbsent past d 0 → thread_records past d ≡ first_records
+unfolding thread_records threads_of thread_record thread_state state_or_over state_by_last
+new_records past d h a =
+    ap (λ (ss : List ServiceId). map (thread_record past d) (range_with_len 0 (length ss + 1))) h
+    ∙ ap2 (λ (o : Option Entry) (c : Option CallId). let item : ThreadRecord = record { state = state_by_last thread.Running o; serves = c } in item ∷ []) a.last a.serves
 
--- the entry that makes a domain adds the rows of its first thread
-pub threads_after_birth : (s : System) (e : Entry) (past : Past) → IsAdmittedPast s (e ∷ past) → is_birth e ≡ true → (1 ≤ e.domain.0 → thread_rows (e ∷ past) e.domain.0 ≡ thread_rows past e.domain.0) →
-    thread_table (e ∷ past) ≡ thread_table past ++ first_rows ∷ []
+-- the entry that makes a domain adds the records of its first thread
+pub threads_after_birth : (s : System) (e : Entry) (past : Past) → IsAdmittedPast s (e ∷ past) → is_birth e ≡ true → (1 ≤ e.domain.0 → thread_records (e ∷ past) e.domain.0 ≡ thread_records past e.domain.0) →
+    thread_table (e ∷ past) ≡ thread_table past ++ first_records ∷ []
 unfolding is_own
 threads_after_birth s e past a b h =
-    ap (λ (k : ℕ). map (thread_rows (e ∷ past)) (up_to k)) (count_new is_birth e past b)
-    ∙ rows_more (thread_rows (e ∷ past)) (domains_made past)
-    ∙ ap2 (λ (xs : List (List ThreadRow)) (x : List ThreadRow). xs ++ x ∷ [])
-    (rows_same (thread_rows (e ∷ past)) (thread_rows past) (domains_made past) (λ k l u. rows_kept e past k l h))
+    ap (λ (k : ℕ). map (thread_records (e ∷ past)) (up_to k)) (count_new is_birth e past b)
+    ∙ records_more (thread_records (e ∷ past)) (domains_made past)
+    ∙ ap2 (λ (xs : List (List ThreadRecord)) (x : List ThreadRecord). xs ++ x ∷ [])
+    (records_same (thread_records (e ∷ past)) (thread_records past) (domains_made past) (λ k l u. records_kept e past k l h))
     (threads_of_other e past (domains_made past + 1) (own_by (unmade_acts s past e (domains_made past + 1) a.0 (omega arith)))
-    ∙ new_rows past (domains_made past + 1) (unmade_threads s past (domains_made past + 1) a.1 (omega arith)) (unmade_absent s past (domains_made past + 1) 0 a.1 (omega arith)))
+    ∙ new_records past (domains_made past + 1) (unmade_threads s past (domains_made past + 1) a.1 (omega arith)) (unmade_absent s past (domains_made past + 1) 0 a.1 (omega arith)))
   where
     own_by : (e.domain.0 == (domains_made past + 1)) ≡ false → is_own (domains_made past + 1) e ≡ false
     own_by q = q
@@ -117,11 +117,11 @@ kept_service e past d zero l = refl
 kept_service e past d (suc t) l = get_left (service_threads past d) (new_threads_of d e) t (omega (arith, l))
 
 -- a thread that was just added is idle
-added_row : (s : System) (e : Entry) (past : Past) (d i : ℕ) (k : ServiceId) → IsNext s past e → IsAdmittedPast s past → slice_get (new_threads_of d e) i ≡ Some k →
-    thread_row (e ∷ past) d (suc (length (service_threads past d) + i)) ≡ idle_row k
-unfolding thread_row thread_state state_or_over service_threads state_by_last serving_state
-added_row s e past d i k n a h =
-    ap3 (λ (c : Option CallId) (o : Option Entry) (k : Option ServiceId). let row : ThreadRow = record { state = state_or_over (option_map (state_with c o) k); serves = c } in row)
+added_record : (s : System) (e : Entry) (past : Past) (d i : ℕ) (k : ServiceId) → IsNext s past e → IsAdmittedPast s past → slice_get (new_threads_of d e) i ≡ Some k →
+    thread_record (e ∷ past) d (suc (length (service_threads past d) + i)) ≡ idle_record k
+unfolding thread_record thread_state state_or_over service_threads state_by_last serving_state
+added_record s e past d i k n a h =
+    ap3 (λ (c : Option CallId) (o : Option Entry) (k : Option ServiceId). let item : ThreadRecord = record { state = state_or_over (option_map (state_with c o) k); serves = c } in item)
     (serves_same e past d t o ∙ b.serves) (last_same e past d t o ∙ b.last) (get_right (service_threads past d) (new_threads_of d e) i (length (service_threads past d) + i) refl ∙ h)
   where
     t : ℕ
@@ -136,22 +136,22 @@ added_row s e past d i k n a h =
 -- an export by a running thread adds idle threads
 pub threads_added : (s : System) (e : Entry) (past : Past) (d t : ℕ) → IsAdmittedPast s (e ∷ past) → is_of_thread d t e ≡ true → t ≤ length (service_threads past d) →
     passes is_running_state (thread_state past d t) ≡ true → leaves_thread e.act e.reply ≡ true →
-    thread_rows (e ∷ past) d ≡ thread_rows past d ++ map idle_row (new_threads_of d e)
-unfolding thread_rows threads_of is_of_thread service_threads
+    thread_records (e ∷ past) d ≡ thread_records past d ++ map idle_record (new_threads_of d e)
+unfolding thread_records threads_of is_of_thread service_threads
 threads_added s e past d t a h l r k =
-    ap (λ (n : ℕ). map (thread_row (e ∷ past) d) (range_with_len 0 n)) longer
-    ∙ ap (map (thread_row (e ∷ past) d)) (range_append 0 (length (service_threads past d) + 1) (length (new_threads_of d e)))
-    ∙ map-append (thread_row (e ∷ past) d) (range_with_len 0 (length (service_threads past d) + 1)) _
-    ∙ ap2 (λ (xs ys : List ThreadRow). xs ++ ys)
-    (map_range (thread_row (e ∷ past) d) (thread_row past d) 0 (length (service_threads past d) + 1) (λ j x y. old j (omega (arith, y)) (same_or_not j t)))
-    (map_items (thread_row (e ∷ past) d) idle_row (0 + (length (service_threads past d) + 1)) (new_threads_of d e) (λ i x q. ap (thread_row (e ∷ past) d) (omega arith) ∙ added_row s e past d i x a.0 a.1 q))
+    ap (λ (n : ℕ). map (thread_record (e ∷ past) d) (range_with_len 0 n)) longer
+    ∙ ap (map (thread_record (e ∷ past) d)) (range_append 0 (length (service_threads past d) + 1) (length (new_threads_of d e)))
+    ∙ map-append (thread_record (e ∷ past) d) (range_with_len 0 (length (service_threads past d) + 1)) _
+    ∙ ap2 (λ (xs ys : List ThreadRecord). xs ++ ys)
+    (map_range (thread_record (e ∷ past) d) (thread_record past d) 0 (length (service_threads past d) + 1) (λ j x y. old j (omega (arith, y)) (same_or_not j t)))
+    (map_items (thread_record (e ∷ past) d) idle_record (0 + (length (service_threads past d) + 1)) (new_threads_of d e) (λ i x q. ap (thread_record (e ∷ past) d) (omega arith) ∙ added_record s e past d i x a.0 a.1 q))
   where
     longer : length (service_threads (e ∷ past) d) + 1 ≡ length (service_threads past d) + 1 + length (new_threads_of d e)
     longer = omega (arith, length-append (service_threads past d) (new_threads_of d e))
 
-    own : thread_row (e ∷ past) d t ≡ thread_row past d t
-    own = thread_row_own e past d t (kept_service e past d t l) h l ∙ row_left past d t e.act e.reply r k
+    own : thread_record (e ∷ past) d t ≡ thread_record past d t
+    own = thread_record_own e past d t (kept_service e past d t l) h l ∙ record_left past d t e.act e.reply r k
 
-    old : (j : ℕ) → j ≤ length (service_threads past d) → (j ≡ t) ⊎ (j ≢ t) → thread_row (e ∷ past) d j ≡ thread_row past d j
-    old j u (inl q) = subst (λ (x : ℕ). thread_row (e ∷ past) d x ≡ thread_row past d x) (sym q) own
-    old j u (inr q) = thread_row_other e past d j (kept_service e past d j u) (not_this (is_own d e) e.thread.0 t j h q)
+    old : (j : ℕ) → j ≤ length (service_threads past d) → (j ≡ t) ⊎ (j ≢ t) → thread_record (e ∷ past) d j ≡ thread_record past d j
+    old j u (inl q) = subst (λ (x : ℕ). thread_record (e ∷ past) d x ≡ thread_record past d x) (sym q) own
+    old j u (inr q) = thread_record_other e past d j (kept_service e past d j u) (not_this (is_own d e) e.thread.0 t j h q)

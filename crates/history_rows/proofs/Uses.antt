@@ -24,19 +24,19 @@ use Rattle.jx_model.specs.Portals.{holds_portal}
 use Rattle.jx_model.specs.Calls.{Answer, is_call, asked_by, queued_as, calls_made, is_queued, is_unanswered, is_resumed, is_resumable, has_live_caller, caller_of, answer_of, answered_by, answered_by_act, answer_by_reply, refused_answer, thrown, ends_server, asked_of, call_entry, call_state, is_taken, is_take_of, is_resume_of}
 use Rattle.jx_model.specs.MemoryObjects.{objects_made}
 use Rattle.jx_model.specs.Holding.{received_objects, is_drop_of, keeps_after, keeps_object, holds_object, carried, carried_by, asked_objects, answer_objects}
-use Rattle.jx_model.specs.Tables.{CallRow, call_row}
+use Rattle.jx_model.specs.Tables.{CallRecord, call_record}
 use Rattle.jx_model.specs.Permits.{acting_thread}
 use Rattle.jx_model.specs.Replies.{reply_to, sent_back, called, holds_all, ◌refuses◌else◌}
 use Rattle.jx_model.specs.Legal.{IsNext, IsAdmittedPast}
 use Rattle.jx_base.proofs.BasicLaws.{both, eq_of}
 use Rattle.jx_base.proofs.NthEntries.{nth_none, nth_passes, count_new, count_same}
 use Rattle.jx_model.proofs.Serving.{take_at, not_ended_yet, before_end}
-use Rattle.history_rows.proofs.Rows.{same_or_not}
+use Rattle.history_rows.proofs.Records.{same_or_not}
 use Rattle.history_rows.proofs.Actors.{live_made, live_by_reason}
 use Rattle.history_rows.proofs.Stages.{resumes}
 use Rattle.history_rows.proofs.Holders.{keeps_step, keeps_made, objects_grow}
 use Rattle.history_rows.proofs.Given.{Source, Fresh, FromCall, FromAnswer, source}
-use Rattle.history_rows.proofs.CallRows.{carried_after, carried_made, call_row_new}
+use Rattle.history_rows.proofs.CallRecords.{carried_after, carried_made, call_record_new}
 use Rattle.history_rows.proofs.CallActs.{caller_lived}
 use Rattle.std.specs.Option.{option_map}
 
@@ -220,16 +220,16 @@ done_by_queue _ h = refl
 
 -- what the call that an entry queues carries
 pub carried_new : (s : System) (e : Entry) (past : Past) (m : ℕ) → IsNext s past e → is_call e ≡ true → contains_number (carried (e ∷ past) (calls_made past + 1)) m ≡ true → Use past m
-unfolding is_call asked_by asked_objects carried call_row
+unfolding is_call asked_by asked_objects carried call_record
 carried_new s e past m n h i = by e.act refl (both (is_some (asked_by e.act)) (is_some (queued_as e.reply)) h)
   where
     by : (a : Act) → e.act ≡ a → (is_some (asked_by a) ≡ true) × (is_some (queued_as e.reply) ≡ true) → Use past m
     by (act.Call k x p) q w =
         call_held s past e.domain.0 m k x p
         (ap is_done (ap (reply_to s past e.domain.0) (sym q)) ∙ ap is_done (sym n.reply) ∙ done_by_queue e.reply w.1)
-        (ap (λ (xs : List ℕ). contains_number xs m) (sym (ap (λ (row : CallRow). row.carried) (call_row_new e past (record { service = k; method = x; parcel = p }) h (ap asked_by q)))) ∙ carried_is ∙ i)
+        (ap (λ (xs : List ℕ). contains_number xs m) (sym (ap (λ (item : CallRecord). item.carried) (call_record_new e past (record { service = k; method = x; parcel = p }) h (ap asked_by q)))) ∙ carried_is ∙ i)
       where
-        carried_is : contains_number (call_row (e ∷ past) (calls_made past + 1)).carried m ≡ contains_number (carried (e ∷ past) (calls_made past + 1)) m
+        carried_is : contains_number (call_record (e ∷ past) (calls_made past + 1)).carried m ≡ contains_number (carried (e ∷ past) (calls_made past + 1)) m
         carried_is = refl
     by _ q w = cc (w.0)
 

@@ -1,4 +1,4 @@
--- An object lies within its extent, and the bytes of its row are its bytes.
+-- An object lies within its extent, and the bytes of its record are its bytes.
 use Rattle.std.proofs.Common.{◌≡◌, refl, sym, ◌∙◌, ap, subst, ℕ, suc, zero, ◌+◌, ◌-◌, ◌<◌, ◌≤◌, ℤ, pos, negsuc, Bool, true, false, not, ◌&&◌, List, [], ◌∷◌, Option, Some, None, arith, ◌⊎◌, inl, inr, slice_get}
 use Rattle.std.specs.Prelude.{nat_le}
 use Rattle.std.proofs.lemmas.Bool.Decides.{nat_tests}
@@ -17,11 +17,11 @@ use Rattle.jx_model.specs.Replies.{reply_to, derived, divided, is_within, is_pos
 use Rattle.jx_model.specs.Tables.{extent_size, extent_bytes}
 use Rattle.jx_model.specs.Legal.{IsNext, IsAdmittedPast}
 use Rattle.jx_base.proofs.BasicLaws.{ap2, both}
-use Rattle.history_rows.proofs.Rows.{get_range}
+use Rattle.history_rows.proofs.Records.{get_range}
 use Rattle.history_rows.proofs.Uses.{undone, turned}
 use Rattle.history_rows.proofs.Parts.{part_old, part_new, part_made, part_extent}
 use Rattle.history_rows.proofs.Frees.{with_part}
-use Rattle.history_rows.proofs.ByteRows.{size_old, size_new}
+use Rattle.history_rows.proofs.ByteRecords.{size_old, size_new}
 
 -- a part within a size
 abbrev pub EndsWithin : Part → ℕ → Type 0
@@ -147,7 +147,7 @@ object_within s (e ∷ past) m o a h = by (nat_le m (objects_made past)) refl (�
         let l = beyond m (objects_made past) q in
         new again (part_place s e past o (m - (objects_made past + 1)) a.0 (sym (part_new e past m (m - (objects_made past + 1)) (omega (arith, l))) ∙ h))
 
--- a byte of an object is one of its extent's row
+-- a byte of an object is one of its extent's record
 pub object_byte_there : (s : System) (past : Past) (m : ℕ) (o : Part) (i : ℕ) → IsAdmittedPast s past → object_part past m ≡ Some o → i < o.size → slice_get (extent_bytes past o.extent) (o.from + i) ≡ Some (byte_at past o.extent (o.from + i))
 unfolding extent_bytes
 object_byte_there s past m o i a h l =

@@ -26,8 +26,8 @@ use Rattle.std.specs.Option.{option_map, unwrap_or}
 -- ---- domains and threads
 
 -- a domain
-unfoldable pub domain_row : System → Past → ℕ → DomainState
-domain_row s past d =
+unfoldable pub domain_record : System → Past → ℕ → DomainState
+domain_record s past d =
     record {
       template = unwrap_or (template_of s past d) 0;
       creator = record { 0 = unwrap_or (creator_of past d) 0 };
@@ -36,11 +36,11 @@ domain_row s past d =
     }
 
 -- all domains
-unfoldable pub domain_rows : System → Past → List DomainState
-domain_rows s past = map (domain_row s past) (up_to (domains_made past))
+unfoldable pub domain_records : System → Past → List DomainState
+domain_records s past = map (domain_record s past) (up_to (domains_made past))
 
 -- a thread: what it does, and the call that it serves also while it waits or has yielded
-pub record ThreadRow : Type 0 where
+pub record ThreadRecord : Type 0 where
   pub state : ThreadState
   pub serves : Option CallId
 
@@ -50,24 +50,24 @@ state_or_over None = thread.Over
 state_or_over (Some x) = x
 
 -- a thread of a domain
-unfoldable pub thread_row : Past → ℕ → ℕ → ThreadRow
-thread_row past d t = record { state = state_or_over (thread_state past d t); serves = served_call past d t }
+unfoldable pub thread_record : Past → ℕ → ℕ → ThreadRecord
+thread_record past d t = record { state = state_or_over (thread_state past d t); serves = served_call past d t }
 
 -- the threads of a domain, thread 0 first
-unfoldable pub thread_rows : Past → ℕ → List ThreadRow
-thread_rows past d = map (thread_row past d) (threads_of past d)
+unfoldable pub thread_records : Past → ℕ → List ThreadRecord
+thread_records past d = map (thread_record past d) (threads_of past d)
 
 -- ---- services
 
 -- a service: its owner, its interface, and the domains that hold a portal to it
-pub record ServiceRow : Type 0 where
+pub record ServiceRecord : Type 0 where
   pub owner : ℕ
   pub interface : Option ClassId
   pub holders : List ℕ
 
 -- a service
-unfoldable pub service_row : Past → ℕ → ServiceRow
-service_row past k =
+unfoldable pub service_record : Past → ℕ → ServiceRecord
+service_record past k =
     record {
       owner = unwrap_or (owner_of past k) 0;
       interface = interface_of past k;
@@ -75,8 +75,8 @@ service_row past k =
     }
 
 -- all services
-unfoldable pub service_rows : Past → List ServiceRow
-service_rows past = map (service_row past) (up_to (services_made past))
+unfoldable pub service_records : Past → List ServiceRecord
+service_records past = map (service_record past) (up_to (services_made past))
 
 -- the service that a list of names has for the name, the first that stands there
 unfoldable pub named_service : List (List ℕ × ℕ) → List ℕ → Option ℕ
@@ -86,7 +86,7 @@ named_service (x ∷ xs) name = if bytes_eq x.0 name then Some x.1 else named_se
 -- ---- calls
 
 -- a call: its caller, the caller's thread, its service, where it stands, and the objects that it carries
-pub record CallRow : Type 0 where
+pub record CallRecord : Type 0 where
   pub caller : ℕ
   pub thread : ℕ
   pub service : ℕ
@@ -98,8 +98,8 @@ unfoldable pub calling_thread : Past → ℕ → Option ℕ
 calling_thread past c = option_map (λ e. e.thread.0) (call_entry past c)
 
 -- a call
-unfoldable pub call_row : Past → ℕ → CallRow
-call_row past c =
+unfoldable pub call_record : Past → ℕ → CallRecord
+call_record past c =
     record {
       caller = unwrap_or (caller_of past c) 0;
       thread = unwrap_or (calling_thread past c) 0;
@@ -109,24 +109,24 @@ call_row past c =
     }
 
 -- all calls
-unfoldable pub call_rows : Past → List CallRow
-call_rows past = map (call_row past) (up_to (calls_made past))
+unfoldable pub call_records : Past → List CallRecord
+call_records past = map (call_record past) (up_to (calls_made past))
 
 -- ---- memory objects
 
 -- an object: whether it is valid, the domains that hold it, and how many calls carry it
-pub record ObjectRow : Type 0 where
+pub record ObjectRecord : Type 0 where
   pub valid : Bool
   pub holders : List ℕ
   pub riding : ℕ
 
 -- an object
-unfoldable pub object_row : Past → ℕ → ObjectRow
-object_row past m = record { valid = is_valid past m; holders = holders past m; riding = riding_count past m }
+unfoldable pub object_record : Past → ℕ → ObjectRecord
+object_record past m = record { valid = is_valid past m; holders = holders past m; riding = riding_count past m }
 
 -- all objects
-unfoldable pub object_rows : Past → List ObjectRow
-object_rows past = map (object_row past) (up_to (objects_made past))
+unfoldable pub object_records : Past → List ObjectRecord
+object_records past = map (object_record past) (up_to (objects_made past))
 
 -- ---- extents and granules
 
@@ -139,21 +139,21 @@ unfoldable pub extent_bytes : Past → ℕ → List ℕ
 extent_bytes past x = map (byte_at past x) (range_with_len 0 (extent_size past x))
 
 -- an extent: its granules, and its bytes, which are kept while it is in use
-pub record ExtentRow : Type 0 where
+pub record ExtentRecord : Type 0 where
   pub run : Run
   pub bytes : Option (List ℕ)
 
 -- an extent
-unfoldable pub extent_row : Past → ℕ → ExtentRow
-extent_row past x = record { run = extent_run past x; bytes = if is_extent_in_use past x then Some (extent_bytes past x) else None }
+unfoldable pub extent_record : Past → ℕ → ExtentRecord
+extent_record past x = record { run = extent_run past x; bytes = if is_extent_in_use past x then Some (extent_bytes past x) else None }
 
 -- all extents
-unfoldable pub extent_rows : Past → List ExtentRow
-extent_rows past = map (extent_row past) (up_to (extents_made past))
+unfoldable pub extent_records : Past → List ExtentRecord
+extent_records past = map (extent_record past) (up_to (extents_made past))
 
 -- for each granule, whether it is in use
-unfoldable pub granule_row : System → Past → List Bool
-granule_row s past = map (is_used_granule s past) (range_with_len 0 (granule_limit s))
+unfoldable pub granule_flags : System → Past → List Bool
+granule_flags s past = map (is_used_granule s past) (range_with_len 0 (granule_limit s))
 
 -- ---- the whole
 
@@ -161,31 +161,31 @@ granule_row s past = map (is_used_granule s past) (range_with_len 0 (granule_lim
 pub record Kept : Type 0 where
   pub past : Past
   pub domains : List DomainState
-  pub threads : List (List ThreadRow)
-  pub services : List ServiceRow
+  pub threads : List (List ThreadRecord)
+  pub services : List ServiceRecord
   pub names : List (List ℕ × ℕ)
-  pub calls : List CallRow
+  pub calls : List CallRecord
   pub waiting : List ℕ
   pub parts : List Part
-  pub objects : List ObjectRow
-  pub extents : List ExtentRow
+  pub objects : List ObjectRecord
+  pub extents : List ExtentRecord
   pub taken : List Bool
 
 -- all that is kept is what the admitted past says
 pub record StandsFor (s : System) (k : Kept) : Type 0 where
   pub admitted : IsAdmittedPast s k.past
-  pub domains : k.domains ≡ domain_rows s k.past
-  pub threads : k.threads ≡ map (thread_rows k.past) (up_to (domains_made k.past))
-  pub services : k.services ≡ service_rows k.past
+  pub domains : k.domains ≡ domain_records s k.past
+  pub threads : k.threads ≡ map (thread_records k.past) (up_to (domains_made k.past))
+  pub services : k.services ≡ service_records k.past
   pub names : (name : List ℕ) → named_service k.names name ≡ bound_service k.past name
-  pub calls : k.calls ≡ call_rows k.past
+  pub calls : k.calls ≡ call_records k.past
   pub waiting : k.waiting ≡ waiting_calls k.past
   pub parts : k.parts ≡ objects_of k.past
-  pub objects : k.objects ≡ object_rows k.past
-  pub extents : k.extents ≡ extent_rows k.past
-  pub taken : k.taken ≡ granule_row s k.past
+  pub objects : k.objects ≡ object_records k.past
+  pub extents : k.extents ≡ extent_records k.past
+  pub taken : k.taken ≡ granule_flags s k.past
 
--- what a computed row opens
+-- what a computed record opens
 unfoldable pub opened_tables : Unit {0}
-unfolding domain_row domain_rows state_or_over thread_row thread_rows service_row service_rows named_service calling_thread call_row call_rows object_row object_rows extent_size extent_bytes extent_row extent_rows granule_row
+unfolding domain_record domain_records state_or_over thread_record thread_records service_record service_records named_service calling_thread call_record call_records object_record object_records extent_size extent_bytes extent_record extent_records granule_flags
 opened_tables = tt

@@ -1,4 +1,4 @@
--- What a reply asks of a past, read off the rows.
+-- What a reply asks of a past, read off the records.
 use Rattle.std.proofs.Common.{◌≡◌, refl, sym, ◌∙◌, ap, ℕ, suc, zero, ◌+◌, ◌-◌, ◌<◌, ◌≤◌, Bool, true, false, not, cond, ◌&&◌, ◌||◌, List, [], ◌∷◌, map, Option, Some, None, is_some, arith, ◌==◌, if◌then◌else◌, ◌⊎◌, inl, inr, slice_get, filter}
 use Rattle.std.specs.Prelude.{nat_le, nat_lt}
 use Rattle.std.specs.List.{range_with_len, list_all}
@@ -20,12 +20,12 @@ use Rattle.jx_model.specs.MemoryObjects.{objects_of, objects_made, is_valid, end
 use Rattle.jx_model.specs.Holding.{holds_object, holders, is_extent_in_use}
 use Rattle.jx_model.specs.Granules.{Run, heap_run, heap_granules, is_free_run, least_free, first_fit, is_used_granule, used_runs, lies_in_one}
 use Rattle.jx_model.specs.Replies.{reply_to}
-use Rattle.jx_model.specs.Tables.{domain_row, domain_rows, ServiceRow, service_row, service_rows, CallRow, call_row, call_rows, ObjectRow, object_row, object_rows, granule_row, extent_row, extent_bytes}
+use Rattle.jx_model.specs.Tables.{domain_record, domain_records, ServiceRecord, service_record, service_records, CallRecord, call_record, call_records, ObjectRecord, object_record, object_records, granule_flags, extent_record, extent_bytes}
 use Rattle.jx_model.specs.Legal.{IsAdmittedPast}
 use Rattle.jx_base.proofs.BasicLaws.{ap2, both}
 use Rattle.jx_base.proofs.NthEntries.{nth_passes, nth_there, nth_none}
 use Rattle.jx_model.proofs.Refusals.{valid_none}
-use Rattle.history_rows.proofs.Rows.{get_range, not_that}
+use Rattle.history_rows.proofs.Records.{get_range, not_that}
 use Rattle.history_rows.proofs.Actors.{live_made}
 use Rattle.history_rows.proofs.Holders.{contains_kept}
 use Rattle.history_rows.proofs.PortalsMade.{held_made}
@@ -34,9 +34,9 @@ use Rattle.history_rows.proofs.Uses.{Use, ByDomain, ByCall, use_before}
 use Rattle.history_rows.proofs.InUse.{holder_lives, carrier_made}
 use Rattle.history_rows.proofs.CallActs.{call_caller_there}
 use Rattle.history_rows.proofs.Granules.{fits_spawn}
-use Rattle.history_rows.proofs.ServiceRows.{was_handed}
-use Rattle.history_rows.proofs.Permission.{lives_in, lives_by_rows, numbered_row, no_row, unmade_entry}
-use Rattle.history_rows.proofs.Acting.{by_number, owner_in, owner_by_rows, no_export, at_most, beyond}
+use Rattle.history_rows.proofs.ServiceRecords.{was_handed}
+use Rattle.history_rows.proofs.Permission.{lives_in, lives_by_records, numbered_record, no_record, unmade_entry}
+use Rattle.history_rows.proofs.Acting.{by_number, owner_in, owner_by_records, no_export, at_most, beyond}
 use Rattle.std.specs.Option.{option_and_then, option_map, unwrap_or}
 
 -- ---- domains
@@ -54,11 +54,11 @@ some_again : (o : Option ℕ) → is_some o ≡ true → o ≡ Some (unwrap_or o
 some_again None h = cc
 some_again (Some x) h = refl
 
--- the rows say who made a domain
-pub creator_by_rows : (s : System) (past : Past) (d : ℕ) → creator_of past d ≡ option_map (λ row. row.creator.0) (numbered (domain_rows s past) d)
-unfolding domain_rows domain_row creator_of birth_of
-creator_by_rows s past d =
-    by_number (domain_row s past) (λ (row : DomainState). row.creator.0) (domains_made past) d (creator_of past d)
+-- the records say who made a domain
+pub creator_by_records : (s : System) (past : Past) (d : ℕ) → creator_of past d ≡ option_map (λ item. item.creator.0) (numbered (domain_records s past) d)
+unfolding domain_records domain_record creator_of birth_of
+creator_by_records s past d =
+    by_number (domain_record s past) (λ (item : DomainState). item.creator.0) (domains_made past) d (creator_of past d)
     (λ l u. some_again (creator_of past d) (there (nth_entry is_birth past d) (nth_there is_birth past d l u)))
     (λ h. ap (option_map (λ (e : Entry). e.domain.0)) (no_birth past d h))
   where
@@ -87,11 +87,11 @@ template_there s (e ∷ past) d x a h = by (is_birth e && (d == domains_made pas
     by true q h again = let z : e ≡ x = cc in ap (λ (y : Entry). is_some (named_template s y.act)) (sym z) ∙ births s past e.domain.0 e.act e.reply a.0.reply (both (is_birth e) (d == domains_made past + 1) q).0
     by false q h again = again h
 
--- the rows say a domain's template
-pub template_by_rows : (s : System) (past : Past) (d : ℕ) → IsAdmittedPast s past → template_of s past d ≡ option_map (λ row. row.template) (numbered (domain_rows s past) d)
-unfolding domain_rows domain_row template_of
-template_by_rows s past d a =
-    by_number (domain_row s past) (λ (row : DomainState). row.template) (domains_made past) d (template_of s past d)
+-- the records say a domain's template
+pub template_by_records : (s : System) (past : Past) (d : ℕ) → IsAdmittedPast s past → template_of s past d ≡ option_map (λ item. item.template) (numbered (domain_records s past) d)
+unfolding domain_records domain_record template_of
+template_by_records s past d a =
+    by_number (domain_record s past) (λ (item : DomainState). item.template) (domains_made past) d (template_of s past d)
     (λ l u. some_again (template_of s past d) (there (birth_of past d) refl (birth_there past d l u)))
     (λ h. ap (λ (o : Option Entry). option_and_then (λ e. named_template s e.act) o) (no_birth past d h))
   where
@@ -101,10 +101,10 @@ template_by_rows s past d a =
 
 -- ---- services
 
--- the rows say a service's interface
-pub interface_by_rows : (past : Past) (k : ℕ) → interface_of past k ≡ option_and_then (λ row. row.interface) (numbered (service_rows past) k)
-unfolding service_rows service_row interface_of
-interface_by_rows past k = by (nat_lt 0 k) refl (nat_le k (services_made past)) refl
+-- the records say a service's interface
+pub interface_by_records : (past : Past) (k : ℕ) → interface_of past k ≡ option_and_then (λ item. item.interface) (numbered (service_records past) k)
+unfolding service_records service_record interface_of
+interface_by_records past k = by (nat_lt 0 k) refl (nat_le k (services_made past)) refl
   where
     some : (c : ℕ) → nat_lt 0 c ≡ true → 1 ≤ c
     some c q = grind (arith, nat_tests)
@@ -112,25 +112,25 @@ interface_by_rows past k = by (nat_lt 0 k) refl (nat_le k (services_made past)) 
     zeroth : (c : ℕ) → nat_lt 0 c ≡ false → c ≡ 0
     zeroth c q = grind (arith, nat_tests)
 
-    none : (k ≡ 0) ⊎ (services_made past < k) → interface_of past k ≡ option_and_then (λ row. row.interface) (numbered (map (service_row past) (up_to (services_made past))) k)
-    none h = ap (λ (o : Option Entry). option_and_then (λ e. exported_interface e.act e.reply) o) (no_export past k h) ∙ sym (ap (λ (o : Option ServiceRow). option_and_then (λ row. row.interface) o) (no_row (service_row past) (services_made past) k h))
+    none : (k ≡ 0) ⊎ (services_made past < k) → interface_of past k ≡ option_and_then (λ item. item.interface) (numbered (map (service_record past) (up_to (services_made past))) k)
+    none h = ap (λ (o : Option Entry). option_and_then (λ e. exported_interface e.act e.reply) o) (no_export past k h) ∙ sym (ap (λ (o : Option ServiceRecord). option_and_then (λ item. item.interface) o) (no_record (service_record past) (services_made past) k h))
 
-    by : (x : Bool) → nat_lt 0 k ≡ x → (y : Bool) → nat_le k (services_made past) ≡ y → interface_of past k ≡ option_and_then (λ row. row.interface) (numbered (map (service_row past) (up_to (services_made past))) k)
+    by : (x : Bool) → nat_lt 0 k ≡ x → (y : Bool) → nat_le k (services_made past) ≡ y → interface_of past k ≡ option_and_then (λ item. item.interface) (numbered (map (service_record past) (up_to (services_made past))) k)
     by false q y r = none (inl (zeroth k q))
     by true q false r = none (inr (beyond k (services_made past) r))
-    by true q true r = sym (ap (λ (o : Option ServiceRow). option_and_then (λ row. row.interface) o) (numbered_row (service_row past) (services_made past) k (some k q) (at_most k (services_made past) r)))
+    by true q true r = sym (ap (λ (o : Option ServiceRecord). option_and_then (λ item. item.interface) o) (numbered_record (service_record past) (services_made past) k (some k q) (at_most k (services_made past) r)))
 
 passes_same : (o : Option ℕ) (f g : ℕ → Bool) → ((k : ℕ) → f k ≡ g k) → passes f o ≡ passes g o
 unfolding passes
 passes_same None f g h = refl
 passes_same (Some k) f g h = h k
 
--- the rows say whether a service's owner lives
-pub live_owner_by_rows : (s : System) (past : Past) (k : ℕ) → has_live_owner past k ≡ passes (lives_in (domain_rows s past)) (owner_in (service_rows past) k)
+-- the records say whether a service's owner lives
+pub live_owner_by_records : (s : System) (past : Past) (k : ℕ) → has_live_owner past k ≡ passes (lives_in (domain_records s past)) (owner_in (service_records past) k)
 unfolding has_live_owner
-live_owner_by_rows s past k = passes_same (owner_of past k) (is_live past) (lives_in (domain_rows s past)) (lives_by_rows s past) ∙ ap (passes (lives_in (domain_rows s past))) (owner_by_rows past k)
+live_owner_by_records s past k = passes_same (owner_of past k) (is_live past) (lives_in (domain_records s past)) (lives_by_records s past) ∙ ap (passes (lives_in (domain_records s past))) (owner_by_records past k)
 
--- the test of a row by its number, where what isn't made fails
+-- the test of a record by its number, where what isn't made fails
 pub test_by_number : {A : Type 0} (f : ℕ → A) (p : A → Bool) (n c : ℕ) (b : Bool) → (1 ≤ c → c ≤ n → b ≡ p (f c)) → ((c ≡ 0) ⊎ (n < c) → b ≡ false) → b ≡ passes p (numbered (map f (up_to n)) c)
 unfolding passes
 test_by_number f p n c b there none = by (nat_lt 0 c) refl (nat_le c n) refl
@@ -142,9 +142,9 @@ test_by_number f p n c b there none = by (nat_lt 0 c) refl (nat_le c n) refl
     zeroth c q = grind (arith, nat_tests)
 
     by : (x : Bool) → nat_lt 0 c ≡ x → (y : Bool) → nat_le c n ≡ y → b ≡ passes p (numbered (map f (up_to n)) c)
-    by false q y r = none (inl (zeroth c q)) ∙ sym (ap (passes p) (no_row f n c (inl (zeroth c q))))
-    by true q false r = none (inr (beyond c n r)) ∙ sym (ap (passes p) (no_row f n c (inr (beyond c n r))))
-    by true q true r = there (some c q) (at_most c n r) ∙ sym (ap (passes p) (numbered_row f n c (some c q) (at_most c n r)))
+    by false q y r = none (inl (zeroth c q)) ∙ sym (ap (passes p) (no_record f n c (inl (zeroth c q))))
+    by true q false r = none (inr (beyond c n r)) ∙ sym (ap (passes p) (no_record f n c (inr (beyond c n r))))
+    by true q true r = there (some c q) (at_most c n r) ∙ sym (ap (passes p) (numbered_record f n c (some c q) (at_most c n r)))
 
 not_true : (b : Bool) → (b ≡ true → ⊥) → b ≡ false
 not_true true h = absurd (h refl)
@@ -191,11 +191,11 @@ pub portal_lives : (past : Past) (d k : ℕ) → holds_portal past d k ≡ true 
 unfolding holds_portal
 portal_lives past d k h = (both (is_live past d) (was_handed past d k) h).0
 
--- the rows say who holds a portal
-pub portal_by_rows : (s : System) (past : Past) (d k : ℕ) → IsAdmittedPast s past → holds_portal past d k ≡ passes (λ row. contains_number row.holders d) (numbered (service_rows past) k)
-unfolding service_rows service_row
-portal_by_rows s past d k a =
-    test_by_number (service_row past) (λ (row : ServiceRow). contains_number row.holders d) (services_made past) k (holds_portal past d k)
+-- the records say who holds a portal
+pub portal_by_records : (s : System) (past : Past) (d k : ℕ) → IsAdmittedPast s past → holds_portal past d k ≡ passes (λ item. contains_number item.holders d) (numbered (service_records past) k)
+unfolding service_records service_record
+portal_by_records s past d k a =
+    test_by_number (service_record past) (λ (item : ServiceRecord). contains_number item.holders d) (services_made past) k (holds_portal past d k)
     (λ l u. among (λ d. holds_portal past d k) (domains_made past) d (λ h. let m = live_made past d (portal_lives past d k h) in (m.low, m.high)))
     (λ h. not_true (holds_portal past d k) (λ z. none h z))
   where
@@ -205,12 +205,12 @@ portal_by_rows s past d k a =
 
 -- ---- calls and objects
 
--- the rows say whether a call's caller lives
-pub live_caller_by_rows : (s : System) (past : Past) (c : ℕ) → has_live_caller past c ≡ passes (λ row. lives_in (domain_rows s past) row.caller) (numbered (call_rows past) c)
-unfolding call_rows call_row has_live_caller caller_of passes
-live_caller_by_rows s past c =
-    test_by_number (call_row past) (λ (row : CallRow). lives_in (domain_rows s past) row.caller) (calls_made past) c (has_live_caller past c)
-    (λ l u. ap (passes (is_live past)) (call_caller_there past c l u) ∙ lives_by_rows s past (unwrap_or (caller_of past c) 0))
+-- the records say whether a call's caller lives
+pub live_caller_by_records : (s : System) (past : Past) (c : ℕ) → has_live_caller past c ≡ passes (λ item. lives_in (domain_records s past) item.caller) (numbered (call_records past) c)
+unfolding call_records call_record has_live_caller caller_of passes
+live_caller_by_records s past c =
+    test_by_number (call_record past) (λ (item : CallRecord). lives_in (domain_records s past) item.caller) (calls_made past) c (has_live_caller past c)
+    (λ l u. ap (passes (is_live past)) (call_caller_there past c l u) ∙ lives_by_records s past (unwrap_or (caller_of past c) 0))
     (λ h. ap (λ (o : Option Entry). passes (is_live past) (option_map (λ e. e.domain.0) o)) (unmade_entry past c h))
 
 -- no object has the number 0
@@ -223,11 +223,11 @@ zero_invalid (e ∷ past) =
     least : (n : ℕ) → nat_le 0 n ≡ true
     least n = grind (arith, nat_tests)
 
--- the rows say which objects are valid
-pub valid_by_rows : (past : Past) (m : ℕ) → is_valid past m ≡ passes (λ row. row.valid) (numbered (object_rows past) m)
-unfolding object_rows object_row
-valid_by_rows past m =
-    test_by_number (object_row past) (λ (row : ObjectRow). row.valid) (objects_made past) m (is_valid past m) (λ l u. refl) none
+-- the records say which objects are valid
+pub valid_by_records : (past : Past) (m : ℕ) → is_valid past m ≡ passes (λ item. item.valid) (numbered (object_records past) m)
+unfolding object_records object_record
+valid_by_records past m =
+    test_by_number (object_record past) (λ (item : ObjectRecord). item.valid) (objects_made past) m (is_valid past m) (λ l u. refl) none
   where
     above : (a b : ℕ) → b < a → nat_le a b ≡ false
     above a b l = grind (arith, nat_tests)
@@ -249,11 +249,11 @@ zero_unused s [] a (ByCall c h) = let m = carrier_made [] c 0 h in absurd (omega
     none = refl
 zero_unused s (e ∷ past) a u = zero_unused s past a.1 (use_before s e past 0 a (omega arith) u)
 
--- the rows say who holds an object
-pub object_by_rows : (s : System) (past : Past) (d m : ℕ) → IsAdmittedPast s past → holds_object past d m ≡ passes (λ row. contains_number row.holders d) (numbered (object_rows past) m)
-unfolding object_rows object_row holders
-object_by_rows s past d m a =
-    test_by_number (object_row past) (λ (row : ObjectRow). contains_number row.holders d) (objects_made past) m (holds_object past d m)
+-- the records say who holds an object
+pub object_by_records : (s : System) (past : Past) (d m : ℕ) → IsAdmittedPast s past → holds_object past d m ≡ passes (λ item. contains_number item.holders d) (numbered (object_records past) m)
+unfolding object_records object_record holders
+object_by_records s past d m a =
+    test_by_number (object_record past) (λ (item : ObjectRecord). contains_number item.holders d) (objects_made past) m (holds_object past d m)
     (λ l u. among (λ d. holds_object past d m) (domains_made past) d (λ h. let v = live_made past d (holder_lives past d m h) in (v.low, v.high)))
     (λ h. not_true (holds_object past d m) (λ z. none h z))
   where
@@ -286,10 +286,10 @@ abbrev pub is_flagged : List Bool → ℕ → Bool
 is_flagged taken g = passes (λ b. b) (slice_get taken g)
 
 -- the flags say the first fit
-pub fit_by_flags : (s : System) (past : Past) (n : ℕ) → first_fit s past n ≡ least_free (is_flagged (granule_row s past)) n (granule_limit s + 1 - n) 0
-unfolding first_fit granule_row is_used_granule passes
+pub fit_by_flags : (s : System) (past : Past) (n : ℕ) → first_fit s past n ≡ least_free (is_flagged (granule_flags s past)) n (granule_limit s + 1 - n) 0
+unfolding first_fit granule_flags is_used_granule passes
 fit_by_flags s past n =
-    fit_same (lies_in_one (used_runs s past)) (is_flagged (granule_row s past)) (granule_limit s) n (granule_limit s + 1 - n) 0
+    fit_same (lies_in_one (used_runs s past)) (is_flagged (granule_flags s past)) (granule_limit s) n (granule_limit s + 1 - n) 0
     (λ k l. sym (ap (passes (λ (b : Bool). b)) (get_range (is_used_granule s past) 0 (granule_limit s) k l) ∙ ap (is_used_granule s past) (omega arith)))
     (cases (granule_limit s) n)
   where
@@ -302,10 +302,10 @@ fit_by_flags s past n =
 
 -- ---- runs
 
--- a domain's row says its heap's granules
-pub heap_run_by_row : (s : System) (past : Past) (d : ℕ) → IsAdmittedPast s past → 1 ≤ d → d ≤ domains_made past → heap_run s past d ≡ (let row : DomainState = domain_row s past d in (row.at, heap_granules s row.template))
-unfolding heap_run domain_row template_of
-heap_run_by_row s past d a l u = ap (λ (n : ℕ). let r : Run = (unwrap_or (heap_place_of past d) 0, n) in r) (by (template_of s past d) (there (birth_of past d) refl (birth_there past d l u)))
+-- a domain's record says its heap's granules
+pub heap_run_by_record : (s : System) (past : Past) (d : ℕ) → IsAdmittedPast s past → 1 ≤ d → d ≤ domains_made past → heap_run s past d ≡ (let item : DomainState = domain_record s past d in (item.at, heap_granules s item.template))
+unfolding heap_run domain_record template_of
+heap_run_by_record s past d a l u = ap (λ (n : ℕ). let r : Run = (unwrap_or (heap_place_of past d) 0, n) in r) (by (template_of s past d) (there (birth_of past d) refl (birth_there past d l u)))
   where
     there : (o : Option Entry) → birth_of past d ≡ o → is_some o ≡ true → is_some (template_of s past d) ≡ true
     there None q h = cc
@@ -315,10 +315,10 @@ heap_run_by_row s past d a l u = ap (λ (n : ℕ). let r : Run = (unwrap_or (hea
     by None h = cc
     by (Some t) h = refl
 
--- an extent's row says whether it is in use
-pub in_use_by_row : (past : Past) (x : ℕ) → is_extent_in_use past x ≡ is_some (extent_row past x).bytes
-unfolding extent_row
-in_use_by_row past x = by (is_extent_in_use past x) (extent_bytes past x)
+-- an extent's record says whether it is in use
+pub in_use_by_record : (past : Past) (x : ℕ) → is_extent_in_use past x ≡ is_some (extent_record past x).bytes
+unfolding extent_record
+in_use_by_record past x = by (is_extent_in_use past x) (extent_bytes past x)
   where
     by : (b : Bool) (xs : List ℕ) → b ≡ is_some (if b then Some xs else None)
     by true xs = refl

@@ -1,4 +1,4 @@
--- The rows of the services, and the names, after an entry more.
+-- The records of the services, and the names, after an entry more.
 use Rattle.std.proofs.Common.{◌≡◌, refl, sym, ◌∙◌, ap, subst, ℕ, ◌+◌, ◌<◌, ◌≤◌, Bool, true, false, not, cond, ◌&&◌, ◌||◌, List, [], ◌∷◌, ◌++◌, map, Option, Some, None, is_some, arith, ◌==◌, if◌then◌else◌, ◌⊎◌, inl, inr, filter, append-nil}
 use Rattle.std.specs.List.{list_any, range_with_len}
 use Rattle.jx_base.specs.declared.act.Act.{Act}
@@ -12,16 +12,16 @@ use Rattle.jx_base.specs.Histories.{Past, is_own, nth_entry}
 use Rattle.jx_model.specs.Domains.{is_live, is_birth, domains_made, ended_by}
 use Rattle.jx_model.specs.Portals.{is_export, exported_interface, services_made, export_of, owner_of, interface_of, has_live_owner, gives_portal, holds_portal, bound_by_act, last_bound, bound_service}
 use Rattle.jx_model.specs.Calls.{ends_domain}
-use Rattle.jx_model.specs.Tables.{ServiceRow, service_row, service_rows}
+use Rattle.jx_model.specs.Tables.{ServiceRecord, service_record, service_records}
 use Rattle.jx_model.specs.Permits.{zero_may, is_halt}
 use Rattle.jx_model.specs.Legal.{IsNext, IsAdmittedPast}
 use Rattle.jx_base.proofs.BasicLaws.{ap2, ap3, both, eq_of, and_true, and_false}
 use Rattle.jx_base.proofs.NthEntries.{nth_new, nth_old, count_new, count_same, count_grows}
-use Rattle.history_rows.proofs.Rows.{filter_same, filter_more, filter_twice, filter_range, rows_same, rows_more}
+use Rattle.history_rows.proofs.Records.{filter_same, filter_more, filter_twice, filter_range, records_same, records_more}
 use Rattle.history_rows.proofs.Actors.{IsMade, live_made, made_stays, unmade_acts, actor_live, acts_live}
 use Rattle.history_rows.proofs.Stages.{live_after}
 use Rattle.history_rows.proofs.Holders.{with_number, contains_kept}
-use Rattle.history_rows.proofs.ObjectRows.{filter_single}
+use Rattle.history_rows.proofs.ObjectRecords.{filter_single}
 use Rattle.history_rows.proofs.PortalsMade.{given_none, bound_made}
 use Rattle.std.specs.Option.{option_and_then, option_map, unwrap_or}
 
@@ -125,7 +125,7 @@ portal_holders_after_gift s e past k n b z g =
     turn false true k h = cc (h refl)
     turn false false k h = refl
 
--- ---- the rows of the services
+-- ---- the records of the services
 
 -- a service that was made before keeps its owner
 pub owner_old : (e : Entry) (past : Past) (k : ℕ) → k ≤ services_made past → owner_of (e ∷ past) k ≡ owner_of past k
@@ -133,18 +133,18 @@ unfolding owner_of export_of
 owner_old e past k u = ap (option_map (λ e. e.domain.0)) (nth_old is_export e past k (λ q. omega (arith, q, u)))
 
 -- and its interface
-pub service_row_old : (e : Entry) (past : Past) (k : ℕ) → k ≤ services_made past → service_row (e ∷ past) k ≡ record (service_row past k) { holders = portal_holders (e ∷ past) k }
-unfolding service_row owner_of interface_of export_of
-service_row_old e past k u =
-    ap (λ (o : Option Entry). let row : ServiceRow = record { owner = unwrap_or (option_map (λ e. e.domain.0) o) 0; interface = option_and_then (λ e. exported_interface e.act e.reply) o; holders = portal_holders (e ∷ past) k } in row)
+pub service_record_old : (e : Entry) (past : Past) (k : ℕ) → k ≤ services_made past → service_record (e ∷ past) k ≡ record (service_record past k) { holders = portal_holders (e ∷ past) k }
+unfolding service_record owner_of interface_of export_of
+service_record_old e past k u =
+    ap (λ (o : Option Entry). let item : ServiceRecord = record { owner = unwrap_or (option_map (λ e. e.domain.0) o) 0; interface = option_and_then (λ e. exported_interface e.act e.reply) o; holders = portal_holders (e ∷ past) k } in item)
     (nth_old is_export e past k (λ q. omega (arith, q, u)))
 
--- the row of a service that an entry makes
-pub service_row_new : (s : System) (e : Entry) (past : Past) → IsAdmittedPast s (e ∷ past) → is_export e ≡ true → gives_portal (services_made past + 1) e ≡ true → is_birth e ≡ false → ended_by e ≡ None → is_live past e.domain.0 ≡ true →
-    service_row (e ∷ past) (services_made past + 1) ≡ record { owner = e.domain.0; interface = exported_interface e.act e.reply; holders = e.domain.0 ∷ [] }
-unfolding service_row owner_of interface_of export_of up_to is_own ends_domain
-service_row_new s e past a x g b z v =
-    ap2 (λ (o : Option Entry) (hs : List ℕ). let row : ServiceRow = record { owner = unwrap_or (option_map (λ e. e.domain.0) o) 0; interface = option_and_then (λ e. exported_interface e.act e.reply) o; holders = hs } in row)
+-- the record of a service that an entry makes
+pub service_record_new : (s : System) (e : Entry) (past : Past) → IsAdmittedPast s (e ∷ past) → is_export e ≡ true → gives_portal (services_made past + 1) e ≡ true → is_birth e ≡ false → ended_by e ≡ None → is_live past e.domain.0 ≡ true →
+    service_record (e ∷ past) (services_made past + 1) ≡ record { owner = e.domain.0; interface = exported_interface e.act e.reply; holders = e.domain.0 ∷ [] }
+unfolding service_record owner_of interface_of export_of up_to is_own ends_domain
+service_record_new s e past a x g b z v =
+    ap2 (λ (o : Option Entry) (hs : List ℕ). let item : ServiceRecord = record { owner = unwrap_or (option_map (λ e. e.domain.0) o) 0; interface = option_and_then (λ e. exported_interface e.act e.reply) o; holders = hs } in item)
     (nth_new is_export e past (services_made past + 1) x refl)
     (ap (λ (n : ℕ). filter (λ d. holds_portal (e ∷ past) d (services_made past + 1)) (range_with_len 1 n)) (count_same is_birth e past b)
     ∙ filter_range (λ d. holds_portal (e ∷ past) d (services_made past + 1)) (λ d. e.domain.0 == d) 1 (domains_made past) (λ d l u. one d l (omega (arith, u)))
@@ -162,33 +162,33 @@ service_row_new s e past a x g b z v =
         ∙ ap3 (λ (w : Option (ℕ × Reason)) (c h : Bool). is_live past d && not (ends_domain w (Some d)) && (((e.domain.0 == d) && c) || h)) z g (given_none s past d (services_made past + 1) a.1 (inr (omega arith)))
         ∙ turn (e.domain.0 == d) (is_live past d) (λ q. ap (is_live past) (sym (eq_of e.domain.0 d q)) ∙ v)
 
--- the rows where no service is made, each by itself
-pub services_kept : (e : Entry) (past : Past) → is_export e ≡ false → ((k : ℕ) → 1 ≤ k → k ≤ services_made past → portal_holders (e ∷ past) k ≡ portal_holders past k) → service_rows (e ∷ past) ≡ service_rows past
-unfolding service_rows service_row
+-- the records where no service is made, each by itself
+pub services_kept : (e : Entry) (past : Past) → is_export e ≡ false → ((k : ℕ) → 1 ≤ k → k ≤ services_made past → portal_holders (e ∷ past) k ≡ portal_holders past k) → service_records (e ∷ past) ≡ service_records past
+unfolding service_records service_record
 services_kept e past x f =
-    ap (λ (n : ℕ). map (service_row (e ∷ past)) (up_to n)) (count_same is_export e past x)
-    ∙ rows_same (service_row (e ∷ past)) (service_row past) (services_made past) (λ k l u.
-    service_row_old e past k u ∙ ap (λ (hs : List ℕ). let row : ServiceRow = record (service_row past k) { holders = hs } in row) (f k l u))
+    ap (λ (n : ℕ). map (service_record (e ∷ past)) (up_to n)) (count_same is_export e past x)
+    ∙ records_same (service_record (e ∷ past)) (service_record past) (services_made past) (λ k l u.
+    service_record_old e past k u ∙ ap (λ (hs : List ℕ). let item : ServiceRecord = record (service_record past k) { holders = hs } in item) (f k l u))
 
--- the rows where the holders of services change
-pub services_changed : (e : Entry) (past : Past) → is_export e ≡ false → service_rows (e ∷ past) ≡ map (λ k. let row : ServiceRow = record (service_row past k) { holders = portal_holders (e ∷ past) k } in row) (up_to (services_made past))
-unfolding service_rows
+-- the records where the holders of services change
+pub services_changed : (e : Entry) (past : Past) → is_export e ≡ false → service_records (e ∷ past) ≡ map (λ k. let item : ServiceRecord = record (service_record past k) { holders = portal_holders (e ∷ past) k } in item) (up_to (services_made past))
+unfolding service_records
 services_changed e past x =
-    ap (λ (n : ℕ). map (service_row (e ∷ past)) (up_to n)) (count_same is_export e past x)
-    ∙ rows_same (service_row (e ∷ past)) (λ k. let row : ServiceRow = record (service_row past k) { holders = portal_holders (e ∷ past) k } in row) (services_made past) (λ k l u. service_row_old e past k u)
+    ap (λ (n : ℕ). map (service_record (e ∷ past)) (up_to n)) (count_same is_export e past x)
+    ∙ records_same (service_record (e ∷ past)) (λ k. let item : ServiceRecord = record (service_record past k) { holders = portal_holders (e ∷ past) k } in item) (services_made past) (λ k l u. service_record_old e past k u)
 
--- an export adds a row
+-- an export adds a record
 pub services_more : (s : System) (e : Entry) (past : Past) → IsAdmittedPast s (e ∷ past) → is_export e ≡ true → gives_portal (services_made past + 1) e ≡ true → is_birth e ≡ false → ended_by e ≡ None → is_live past e.domain.0 ≡ true →
     ((d k : ℕ) → 1 ≤ k → k ≤ services_made past → (is_own d e && gives_portal k e) ≡ false) →
-    service_rows (e ∷ past) ≡ service_rows past ++ (record { owner = e.domain.0; interface = exported_interface e.act e.reply; holders = e.domain.0 ∷ [] }) ∷ []
-unfolding service_rows service_row
+    service_records (e ∷ past) ≡ service_records past ++ (record { owner = e.domain.0; interface = exported_interface e.act e.reply; holders = e.domain.0 ∷ [] }) ∷ []
+unfolding service_records service_record
 services_more s e past a x g b z v f =
-    ap (λ (n : ℕ). map (service_row (e ∷ past)) (up_to n)) (count_new is_export e past x)
-    ∙ rows_more (service_row (e ∷ past)) (services_made past)
-    ∙ ap2 (λ (xs : List ServiceRow) (y : ServiceRow). xs ++ y ∷ [])
-    (rows_same (service_row (e ∷ past)) (service_row past) (services_made past) (λ k l u.
-    service_row_old e past k u ∙ ap (λ (hs : List ℕ). let row : ServiceRow = record (service_row past k) { holders = hs } in row) (portal_holders_same s e past k a z (λ d. f d k l u))))
-    (service_row_new s e past a x g b z v)
+    ap (λ (n : ℕ). map (service_record (e ∷ past)) (up_to n)) (count_new is_export e past x)
+    ∙ records_more (service_record (e ∷ past)) (services_made past)
+    ∙ ap2 (λ (xs : List ServiceRecord) (y : ServiceRecord). xs ++ y ∷ [])
+    (records_same (service_record (e ∷ past)) (service_record past) (services_made past) (λ k l u.
+    service_record_old e past k u ∙ ap (λ (hs : List ℕ). let item : ServiceRecord = record (service_record past k) { holders = hs } in item) (portal_holders_same s e past k a z (λ d. f d k l u))))
+    (service_record_new s e past a x g b z v)
 
 -- ---- names
 

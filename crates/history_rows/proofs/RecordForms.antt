@@ -1,4 +1,4 @@
--- What the end of a domain and a release change, in words of the rows alone.
+-- What the end of a domain and a release change, in words of the records alone.
 use Rattle.std.proofs.Common.{◌≡◌, ◌≢◌, refl, sym, ◌∙◌, ap, ℕ, suc, zero, ◌+◌, ◌<◌, ◌≤◌, Bool, true, false, not, ◌&&◌, List, [], ◌∷◌, map, Option, Some, None, is_some, arith, ◌==◌, if◌then◌else◌, ◌⊎◌, inl, inr, filter, filter_map}
 use Rattle.std.specs.List.{range_with_len, cons_option}
 use Rattle.jx_base.specs.declared.act.Entry.{Entry}
@@ -10,51 +10,51 @@ use Rattle.jx_model.specs.Domains.{is_live, domains_made, ended_by}
 use Rattle.jx_model.specs.Portals.{owner_of}
 use Rattle.jx_model.specs.Calls.{ends_domain, service_of_call}
 use Rattle.jx_model.specs.Granules.{Run, run_if, heap_run, extent_run}
-use Rattle.jx_model.specs.Tables.{CallRow, call_rows, service_rows, extent_row, object_rows}
+use Rattle.jx_model.specs.Tables.{CallRecord, call_records, service_records, extent_record, object_records}
 use Rattle.jx_base.proofs.BasicLaws.{ap2, and_true}
-use Rattle.history_rows.proofs.Rows.{same_or_not, is_that, not_that}
+use Rattle.history_rows.proofs.Records.{same_or_not, is_that, not_that}
 use Rattle.history_rows.proofs.Actors.{live_made}
 use Rattle.history_rows.proofs.Stages.{live_after}
 use Rattle.history_rows.proofs.CallActs.{owned_by, ended_call, filter_tests}
-use Rattle.history_rows.proofs.Acting.{service_in, owner_in, service_by_rows, owner_by_rows, no_export}
+use Rattle.history_rows.proofs.Acting.{service_in, owner_in, service_by_records, owner_by_records, no_export}
 use Rattle.history_rows.proofs.Freed.{is_heap_freed, is_extent_freed}
-use Rattle.history_rows.proofs.Pieces.{in_use_by, in_use_by_rows}
-use Rattle.history_rows.proofs.RowReads.{in_use_by_row}
+use Rattle.history_rows.proofs.Pieces.{in_use_by, in_use_by_records}
+use Rattle.history_rows.proofs.RecordReads.{in_use_by_record}
 use Rattle.jx_model.specs.MemoryObjects.{objects_of, extents_made}
 use Rattle.std.specs.Option.{option_and_then, option_map, unwrap_or}
 
 -- ---- services of a domain
 
--- the rows say whether a domain owns a service
-pub owned_by_row : (past : Past) (d k : ℕ) → owned_by past d k ≡ is_number (owner_in (service_rows past) k) d
-owned_by_row past d k = ap (λ (o : Option ℕ). is_number o d) (owner_by_rows past k)
+-- the records say whether a domain owns a service
+pub owned_by_record : (past : Past) (d k : ℕ) → owned_by past d k ≡ is_number (owner_in (service_records past) k) d
+owned_by_record past d k = ap (λ (o : Option ℕ). is_number o d) (owner_by_records past k)
 
 map_tests : {A B : Type 0} (f g : A → B) (xs : List A) → ((x : A) → f x ≡ g x) → map f xs ≡ map g xs
 map_tests f g [] h = refl
 map_tests {B = B} f g (x ∷ xs) h = ap2 (λ (y : B) (ys : List B). y ∷ ys) (h x) (map_tests f g xs h)
 
--- the calls' rows after the end of a domain, by the services' rows
-pub ended_calls_by_rows : (past : Past) (d : ℕ) (calls : List CallRow) → map (ended_call (owned_by past d) d) calls ≡ map (ended_call (λ k. is_number (owner_in (service_rows past) k) d) d) calls
-ended_calls_by_rows past d calls = map_tests (ended_call (owned_by past d) d) (ended_call (λ k. is_number (owner_in (service_rows past) k) d) d) calls (λ row. ended row (owned_by_row past d row.service))
+-- the calls' records after the end of a domain, by the services' records
+pub ended_calls_by_records : (past : Past) (d : ℕ) (calls : List CallRecord) → map (ended_call (owned_by past d) d) calls ≡ map (ended_call (λ k. is_number (owner_in (service_records past) k) d) d) calls
+ended_calls_by_records past d calls = map_tests (ended_call (owned_by past d) d) (ended_call (λ k. is_number (owner_in (service_records past) k) d) d) calls (λ item. ended item (owned_by_record past d item.service))
   where
-    ended : (row : CallRow) → owned_by past d row.service ≡ is_number (owner_in (service_rows past) row.service) d → ended_call (owned_by past d) d row ≡ ended_call (λ k. is_number (owner_in (service_rows past) k) d) d row
-    ended row q = ap (λ (b : Bool). ended_call (λ k. b) d row) q
+    ended : (item : CallRecord) → owned_by past d item.service ≡ is_number (owner_in (service_records past) item.service) d → ended_call (owned_by past d) d item ≡ ended_call (λ k. is_number (owner_in (service_records past) k) d) d item
+    ended item q = ap (λ (b : Bool). ended_call (λ k. b) d item) q
 
 zero_owner : (past : Past) (d : ℕ) → owned_by past d 0 ≡ false
 unfolding owner_of is_number
 zero_owner past d = ap (λ (o : Option Entry). is_number (option_map (λ e. e.domain.0) o) d) (no_export past 0 (inl refl))
 
--- the waiting calls after the end of a domain, by the rows
-pub ended_waiting_by_rows : (past : Past) (d : ℕ) (waiting : List ℕ) →
-    filter (λ c. not (owned_by past d (unwrap_or (service_of_call past c) 0))) waiting ≡ filter (λ c. not (is_number (option_and_then (owner_in (service_rows past)) (service_in (call_rows past) c)) d)) waiting
+-- the waiting calls after the end of a domain, by the records
+pub ended_waiting_by_records : (past : Past) (d : ℕ) (waiting : List ℕ) →
+    filter (λ c. not (owned_by past d (unwrap_or (service_of_call past c) 0))) waiting ≡ filter (λ c. not (is_number (option_and_then (owner_in (service_records past)) (service_in (call_records past) c)) d)) waiting
 unfolding is_number
-ended_waiting_by_rows past d waiting =
-    filter_tests (λ c. not (owned_by past d (unwrap_or (service_of_call past c) 0))) (λ c. not (is_number (option_and_then (owner_in (service_rows past)) (service_in (call_rows past) c)) d)) waiting (λ c.
-    ap not (by (service_of_call past c) ∙ ap (λ (o : Option ℕ). is_number (option_and_then (owner_in (service_rows past)) o) d) (service_by_rows past c)))
+ended_waiting_by_records past d waiting =
+    filter_tests (λ c. not (owned_by past d (unwrap_or (service_of_call past c) 0))) (λ c. not (is_number (option_and_then (owner_in (service_records past)) (service_in (call_records past) c)) d)) waiting (λ c.
+    ap not (by (service_of_call past c) ∙ ap (λ (o : Option ℕ). is_number (option_and_then (owner_in (service_records past)) o) d) (service_by_records past c)))
   where
-    by : (o : Option ℕ) → owned_by past d (unwrap_or o 0) ≡ is_number (option_and_then (owner_in (service_rows past)) o) d
+    by : (o : Option ℕ) → owned_by past d (unwrap_or o 0) ≡ is_number (option_and_then (owner_in (service_records past)) o) d
     by None = zero_owner past d
-    by (Some k) = owned_by_row past d k
+    by (Some k) = owned_by_record past d k
 
 -- ---- freed heaps
 
@@ -116,11 +116,11 @@ map_runs : (f g : ℕ → Option Run) (a n : ℕ) → ((x : ℕ) → a ≤ x →
 map_runs f g a zero h = refl
 map_runs f g a (suc n) h = ap2 (λ (o : Option Run) (rs : List Run). cons_option o rs) (h a (omega arith) (omega arith)) (map_runs f g (a + 1) n (λ x l u. h x (omega (arith, l)) (omega (arith, u))))
 
--- the runs of the extents that an entry frees, by the extents' rows before it and the parts and the objects' rows after it
-pub extents_freed_by_rows : (e : Entry) (past : Past) →
+-- the runs of the extents that an entry frees, by the extents' records before it and the parts and the objects' records after it
+pub extents_freed_by_records : (e : Entry) (past : Past) →
     filter_map (run_if (is_extent_freed e past) (extent_run past)) (up_to (extents_made past))
-    ≡ filter_map (λ x. if is_some (extent_row past x).bytes && not (in_use_by (objects_of (e ∷ past)) (object_rows (e ∷ past)) x) then Some (extent_row past x).run else None) (up_to (extents_made past))
-unfolding run_if up_to extent_row
-extents_freed_by_rows e past =
-    map_runs (run_if (is_extent_freed e past) (extent_run past)) (λ x. if is_some (extent_row past x).bytes && not (in_use_by (objects_of (e ∷ past)) (object_rows (e ∷ past)) x) then Some (extent_row past x).run else None) 1 (extents_made past)
-    (λ x l u. ap2 (λ (b c : Bool). if b && not c then Some (extent_run past x) else None) (in_use_by_row past x) (in_use_by_rows (e ∷ past) x))
+    ≡ filter_map (λ x. if is_some (extent_record past x).bytes && not (in_use_by (objects_of (e ∷ past)) (object_records (e ∷ past)) x) then Some (extent_record past x).run else None) (up_to (extents_made past))
+unfolding run_if up_to extent_record
+extents_freed_by_records e past =
+    map_runs (run_if (is_extent_freed e past) (extent_run past)) (λ x. if is_some (extent_record past x).bytes && not (in_use_by (objects_of (e ∷ past)) (object_records (e ∷ past)) x) then Some (extent_record past x).run else None) 1 (extents_made past)
+    (λ x l u. ap2 (λ (b c : Bool). if b && not c then Some (extent_run past x) else None) (in_use_by_record past x) (in_use_by_records (e ∷ past) x))

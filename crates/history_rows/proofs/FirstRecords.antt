@@ -9,7 +9,7 @@ use Rattle.jx_model.specs.Portals.{bound_service, last_bound}
 use Rattle.jx_model.specs.Calls.{waiting_calls}
 use Rattle.jx_model.specs.MemoryObjects.{objects_of, objects_made}
 use Rattle.jx_model.specs.Granules.{heap_runs, extent_runs, used_runs, lies_in_one, is_used_granule}
-use Rattle.jx_model.specs.Tables.{Kept, StandsFor, domain_rows, service_rows, named_service, call_rows, object_rows, extent_rows, granule_row}
+use Rattle.jx_model.specs.Tables.{Kept, StandsFor, domain_records, service_records, named_service, call_records, object_records, extent_records, granule_flags}
 use Rattle.std.specs.Option.{option_and_then}
 
 no_flags : (f : ℕ → Bool) (a n : ℕ) → ((g : ℕ) → f g ≡ false) → map f (range_with_len a n) ≡ replicate n false
@@ -35,7 +35,7 @@ first_kept s =
 
 -- it stands for the past without entries
 pub stands_at_start : (s : System) → StandsFor s (first_kept s)
-unfolding domain_rows service_rows named_service bound_service last_bound call_rows waiting_calls objects_of object_rows objects_made extent_rows granule_row is_used_granule lies_in_one used_runs heap_runs extent_runs count_where up_to
+unfolding domain_records service_records named_service bound_service last_bound call_records waiting_calls objects_of object_records objects_made extent_records granule_flags is_used_granule lies_in_one used_runs heap_runs extent_runs count_where up_to
 stands_at_start s =
     record {
       admitted = tt;

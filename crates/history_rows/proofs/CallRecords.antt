@@ -1,4 +1,4 @@
--- The row of a call, and the waiting calls, after an entry more.
+-- The record of a call, and the waiting calls, after an entry more.
 use Rattle.std.proofs.Common.{◌≡◌, ◌≢◌, refl, sym, ◌∙◌, ap, ℕ, ◌+◌, ◌≤◌, Bool, true, false, not, cond, ◌&&◌, ◌||◌, List, [], ◌∷◌, ◌++◌, length, map, Option, Some, None, is_some, is_none, arith, if◌then◌else◌, filter, set, slice_get}
 use Rattle.jx_base.specs.declared.act.Entry.{Entry}
 use Rattle.jx_base.specs.declared.program.System.{System}
@@ -8,12 +8,12 @@ use Rattle.jx_base.specs.Basics.{up_to}
 use Rattle.jx_base.specs.Histories.{Past}
 use Rattle.jx_model.specs.Calls.{Answer, Asked, is_call, calls_made, call_entry, caller_of, marked, answer_of, answered_by, is_taken, is_resumed, is_take_of, is_resume_of, is_queued, is_unanswered, has_live_caller, service_of_call, asked_of, asked_by, call_state, call_stage, waiting_calls, answer_kind}
 use Rattle.jx_model.specs.Holding.{carried, carried_by, asked_objects, answer_objects}
-use Rattle.jx_model.specs.Tables.{CallRow, call_row, call_rows, calling_thread}
+use Rattle.jx_model.specs.Tables.{CallRecord, call_record, call_records, calling_thread}
 use Rattle.jx_model.specs.Legal.{IsAdmittedPast}
 use Rattle.jx_base.proofs.BasicLaws.{ap2, ap3, and_true}
 use Rattle.jx_base.proofs.NthEntries.{nth_new, nth_there, count_new, count_same}
 use Rattle.jx_model.proofs.CallSteps.{since_new, taken_made, resumed_made, answer_made, entry_made, asked_made, service_made}
-use Rattle.history_rows.proofs.Rows.{rows_same, rows_more, rows_set, rows_get, rows_length, filter_same, filter_more, filter_twice, or_false}
+use Rattle.history_rows.proofs.Records.{records_same, records_more, records_set, records_get, records_length, filter_same, filter_more, filter_twice, or_false}
 use Rattle.history_rows.proofs.Stages.{resumed_answered}
 use Rattle.std.specs.Option.{option_and_then, option_map, unwrap_or}
 
@@ -38,12 +38,12 @@ carried_after call.Queued old take (Some a) awaited = if awaited then answer_obj
 carried_after call.Queued old true None awaited = []
 carried_after call.Queued old false None awaited = old
 
--- a call's row after an entry
-abbrev pub call_row_after : CallRow → Bool → Option Answer → Bool → Bool → CallRow
-call_row_after row take answer resume lives =
-    record row {
-      state = state_after_entry row.state take answer resume;
-      carried = carried_after row.state row.carried take answer (lives && not resume);
+-- a call's record after an entry
+abbrev pub call_record_after : CallRecord → Bool → Option Answer → Bool → Bool → CallRecord
+call_record_after item take answer resume lives =
+    record item {
+      state = state_after_entry item.state take answer resume;
+      carried = carried_after item.state item.carried take answer (lives && not resume);
     }
 
 -- the state of a call that was queued before the entry
@@ -127,76 +127,76 @@ carried_made s e past c a l u lives =
     by true false None false true None false true k x y z = refl
     by true false None false false None resume l k x y z = refl
 
--- the row of a call that was queued before the entry
-pub call_row_made : (s : System) (e : Entry) (past : Past) (c : ℕ) → IsAdmittedPast s past → 1 ≤ c → c ≤ calls_made past → (has_live_caller (e ∷ past) c ≡ true → has_live_caller past c ≡ true) →
-    call_row (e ∷ past) c ≡ call_row_after (call_row past c) (is_take_of c e.act) (answered_by past e c) (is_resume_of c e.act) (has_live_caller (e ∷ past) c)
-unfolding call_row caller_of calling_thread
-call_row_made s e past c a l u lives =
-    ap2 (λ (x : Option Entry) (k : Option ℕ). let row : CallRow = record {
+-- the record of a call that was queued before the entry
+pub call_record_made : (s : System) (e : Entry) (past : Past) (c : ℕ) → IsAdmittedPast s past → 1 ≤ c → c ≤ calls_made past → (has_live_caller (e ∷ past) c ≡ true → has_live_caller past c ≡ true) →
+    call_record (e ∷ past) c ≡ call_record_after (call_record past c) (is_take_of c e.act) (answered_by past e c) (is_resume_of c e.act) (has_live_caller (e ∷ past) c)
+unfolding call_record caller_of calling_thread
+call_record_made s e past c a l u lives =
+    ap2 (λ (x : Option Entry) (k : Option ℕ). let item : CallRecord = record {
       caller = unwrap_or (option_map (λ e. e.domain.0) x) 0;
       thread = unwrap_or (option_map (λ e. e.thread.0) x) 0;
       service = unwrap_or k 0;
       state = call_state (e ∷ past) c;
       carried = carried (e ∷ past) c;
-    } in row)
+    } in item)
     (entry_made e past c u) (service_made e past c u)
-    ∙ ap2 (λ (x : CallState) (y : List ℕ). let row : CallRow = record (call_row past c) { state = x; carried = y } in row) (call_state_made e past c l u) (carried_made s e past c a l u lives)
+    ∙ ap2 (λ (x : CallState) (y : List ℕ). let item : CallRecord = record (call_record past c) { state = x; carried = y } in item) (call_state_made e past c l u) (carried_made s e past c a l u lives)
 
--- an entry that does nothing to a call, and leaves its caller alive or not, leaves its row
-pub call_row_same : (e : Entry) (past : Past) (c : ℕ) → 1 ≤ c → c ≤ calls_made past → is_take_of c e.act ≡ false → answered_by past e c ≡ None → is_resume_of c e.act ≡ false →
-    has_live_caller (e ∷ past) c ≡ has_live_caller past c → call_row (e ∷ past) c ≡ call_row past c
-unfolding call_row caller_of calling_thread carried is_queued is_unanswered call_state
-call_row_same e past c l u t n r v =
-    ap2 (λ (x : Option Entry) (k : Option Asked). let row : CallRow = record {
+-- an entry that does nothing to a call, and leaves its caller alive or not, leaves its record
+pub call_record_same : (e : Entry) (past : Past) (c : ℕ) → 1 ≤ c → c ≤ calls_made past → is_take_of c e.act ≡ false → answered_by past e c ≡ None → is_resume_of c e.act ≡ false →
+    has_live_caller (e ∷ past) c ≡ has_live_caller past c → call_record (e ∷ past) c ≡ call_record past c
+unfolding call_record caller_of calling_thread carried is_queued is_unanswered call_state
+call_record_same e past c l u t n r v =
+    ap2 (λ (x : Option Entry) (k : Option Asked). let item : CallRecord = record {
       caller = unwrap_or (option_map (λ e. e.domain.0) x) 0;
       thread = unwrap_or (option_map (λ e. e.thread.0) x) 0;
       service = unwrap_or (service_of_call (e ∷ past) c) 0;
       state = call_state (e ∷ past) c;
       carried = carried_by (is_queued (e ∷ past) c) (has_live_caller (e ∷ past) c && not (is_resumed (e ∷ past) c)) k (answer_of (e ∷ past) c);
-    } in row)
+    } in item)
     (entry_made e past c u) (asked_made e past c u)
-    ∙ ap2 (λ (k : Option ℕ) (b : Bool). let row : CallRow = record (call_row past c) {
+    ∙ ap2 (λ (k : Option ℕ) (b : Bool). let item : CallRecord = record (call_record past c) {
       service = unwrap_or k 0;
       state = call_state (e ∷ past) c;
       carried = carried_by (is_queued (e ∷ past) c) (b && not (is_resumed (e ∷ past) c)) (asked_of past c) (answer_of (e ∷ past) c);
-    } in row)
+    } in item)
     (service_made e past c u) v
-    ∙ ap3 (λ (x : Bool) (o : Option Answer) (y : Bool). let row : CallRow = record (call_row past c) {
+    ∙ ap3 (λ (x : Bool) (o : Option Answer) (y : Bool). let item : CallRecord = record (call_record past c) {
       state = call_stage x o y;
       carried = carried_by (is_some (call_entry (e ∷ past) c) && is_none o && not y) (has_live_caller past c && not x) (asked_of past c) o;
-    } in row)
+    } in item)
     (resumed_made e past c l u ∙ ap (λ (b : Bool). is_resumed past c || b) r ∙ or_false (is_resumed past c))
     (answer_made e past c l u ∙ ap (λ (x : Option Answer). elim (answer_of past c) as (λ _. Option Answer) [ Some a ↦ Some a | None ↦ x ]) n ∙ kept (answer_of past c))
     (taken_made e past c l u ∙ ap (λ (b : Bool). is_taken past c || b) t ∙ or_false (is_taken past c))
-    ∙ ap (λ (x : Option Entry). let row : CallRow = record (call_row past c) {
+    ∙ ap (λ (x : Option Entry). let item : CallRecord = record (call_record past c) {
       carried = carried_by (is_some x && is_none (answer_of past c) && not (is_taken past c)) (has_live_caller past c && not (is_resumed past c)) (asked_of past c) (answer_of past c);
-    } in row)
+    } in item)
     (entry_made e past c u)
   where
     kept : (o : Option Answer) → (elim o as (λ _. Option Answer) [ Some a ↦ Some a | None ↦ None ]) ≡ o
     kept None = refl
     kept (Some a) = refl
 
--- the row of the call that an entry makes
-pub call_row_new : (e : Entry) (past : Past) (a : Asked) → is_call e ≡ true → asked_by e.act ≡ Some a →
-    call_row (e ∷ past) (calls_made past + 1) ≡ record { caller = e.domain.0; thread = e.thread.0; service = a.service.0; state = call.Queued; carried = asked_objects (Some a) }
-unfolding call_row caller_of calling_thread carried is_queued is_unanswered call_state is_resumed is_taken answer_of service_of_call asked_of call_entry call_stage carried_by
-call_row_new e past a h q =
-    ap3 (λ (x : Option Entry) (r : Option (Unit {0})) (o : Option Answer). let row : CallRow = record {
+-- the record of the call that an entry makes
+pub call_record_new : (e : Entry) (past : Past) (a : Asked) → is_call e ≡ true → asked_by e.act ≡ Some a →
+    call_record (e ∷ past) (calls_made past + 1) ≡ record { caller = e.domain.0; thread = e.thread.0; service = a.service.0; state = call.Queued; carried = asked_objects (Some a) }
+unfolding call_record caller_of calling_thread carried is_queued is_unanswered call_state is_resumed is_taken answer_of service_of_call asked_of call_entry call_stage carried_by
+call_record_new e past a h q =
+    ap3 (λ (x : Option Entry) (r : Option (Unit {0})) (o : Option Answer). let item : CallRecord = record {
       caller = unwrap_or (option_map (λ e. e.domain.0) x) 0;
       thread = unwrap_or (option_map (λ e. e.thread.0) x) 0;
       service = unwrap_or (option_map (λ a. a.service.0) (option_and_then (λ e. asked_by e.act) x)) 0;
       state = call_stage (is_some r) o (is_taken (e ∷ past) n);
       carried = carried_by (is_some x && is_none o && not (is_taken (e ∷ past) n)) (has_live_caller (e ∷ past) n && not (is_some r)) (option_and_then (λ e. asked_by e.act) x) o;
-    } in row)
+    } in item)
     (nth_new is_call e past n h refl) (since_new (λ before e. marked (is_resume_of n e.act)) e past n (omega arith)) (since_new (λ before e. answered_by before e n) e past n (omega arith))
-    ∙ ap2 (λ (t : Option (Unit {0})) (k : Option Asked). let row : CallRow = record {
+    ∙ ap2 (λ (t : Option (Unit {0})) (k : Option Asked). let item : CallRecord = record {
       caller = e.domain.0;
       thread = e.thread.0;
       service = unwrap_or (option_map (λ a. a.service.0) k) 0;
       state = call_stage false None (is_some t);
       carried = carried_by (not (is_some t)) (has_live_caller (e ∷ past) n && true) k None;
-    } in row)
+    } in item)
     (since_new (λ before e. marked (is_take_of n e.act)) e past n (omega arith)) q
   where
     n : ℕ
@@ -205,38 +205,38 @@ call_row_new e past a h q =
 -- ---- all calls
 
 -- how many calls there are
-pub calls_counted : (past : Past) → length (call_rows past) ≡ calls_made past
-unfolding call_rows
-calls_counted past = rows_length (call_row past) (calls_made past)
+pub calls_counted : (past : Past) → length (call_records past) ≡ calls_made past
+unfolding call_records
+calls_counted past = records_length (call_record past) (calls_made past)
 
--- the row of a call
-pub call_row_there : (past : Past) (c i : ℕ) → c ≡ i + 1 → c ≤ calls_made past → slice_get (call_rows past) i ≡ Some (call_row past c)
-unfolding call_rows
-call_row_there past c i q u = rows_get (call_row past) (calls_made past) c i q u
+-- the record of a call
+pub call_record_there : (past : Past) (c i : ℕ) → c ≡ i + 1 → c ≤ calls_made past → slice_get (call_records past) i ≡ Some (call_record past c)
+unfolding call_records
+call_record_there past c i q u = records_get (call_record past) (calls_made past) c i q u
 
--- an entry that leaves each row leaves all
-pub calls_same : (e : Entry) (past : Past) → is_call e ≡ false → ((c : ℕ) → 1 ≤ c → c ≤ calls_made past → call_row (e ∷ past) c ≡ call_row past c) → call_rows (e ∷ past) ≡ call_rows past
-unfolding call_rows
+-- an entry that leaves each record leaves all
+pub calls_same : (e : Entry) (past : Past) → is_call e ≡ false → ((c : ℕ) → 1 ≤ c → c ≤ calls_made past → call_record (e ∷ past) c ≡ call_record past c) → call_records (e ∷ past) ≡ call_records past
+unfolding call_records
 calls_same e past h f =
-    ap (λ (n : ℕ). map (call_row (e ∷ past)) (up_to n)) (count_same is_call e past h)
-    ∙ rows_same (call_row (e ∷ past)) (call_row past) (calls_made past) f
+    ap (λ (n : ℕ). map (call_record (e ∷ past)) (up_to n)) (count_same is_call e past h)
+    ∙ records_same (call_record (e ∷ past)) (call_record past) (calls_made past) f
 
 -- a call more
-pub calls_more : (e : Entry) (past : Past) → is_call e ≡ true → ((c : ℕ) → 1 ≤ c → c ≤ calls_made past → call_row (e ∷ past) c ≡ call_row past c) →
-    call_rows (e ∷ past) ≡ call_rows past ++ call_row (e ∷ past) (calls_made past + 1) ∷ []
-unfolding call_rows
+pub calls_more : (e : Entry) (past : Past) → is_call e ≡ true → ((c : ℕ) → 1 ≤ c → c ≤ calls_made past → call_record (e ∷ past) c ≡ call_record past c) →
+    call_records (e ∷ past) ≡ call_records past ++ call_record (e ∷ past) (calls_made past + 1) ∷ []
+unfolding call_records
 calls_more e past h f =
-    ap (λ (n : ℕ). map (call_row (e ∷ past)) (up_to n)) (count_new is_call e past h)
-    ∙ rows_more (call_row (e ∷ past)) (calls_made past)
-    ∙ ap (λ (xs : List CallRow). xs ++ call_row (e ∷ past) (calls_made past + 1) ∷ []) (rows_same (call_row (e ∷ past)) (call_row past) (calls_made past) f)
+    ap (λ (n : ℕ). map (call_record (e ∷ past)) (up_to n)) (count_new is_call e past h)
+    ∙ records_more (call_record (e ∷ past)) (calls_made past)
+    ∙ ap (λ (xs : List CallRecord). xs ++ call_record (e ∷ past) (calls_made past + 1) ∷ []) (records_same (call_record (e ∷ past)) (call_record past) (calls_made past) f)
 
--- one row changed
-pub calls_one : (e : Entry) (past : Past) (c i : ℕ) → is_call e ≡ false → c ≡ i + 1 → c ≤ calls_made past → ((k : ℕ) → 1 ≤ k → k ≤ calls_made past → k ≢ c → call_row (e ∷ past) k ≡ call_row past k) →
-    call_rows (e ∷ past) ≡ set (call_rows past) i (call_row (e ∷ past) c)
-unfolding call_rows
+-- one record changed
+pub calls_one : (e : Entry) (past : Past) (c i : ℕ) → is_call e ≡ false → c ≡ i + 1 → c ≤ calls_made past → ((k : ℕ) → 1 ≤ k → k ≤ calls_made past → k ≢ c → call_record (e ∷ past) k ≡ call_record past k) →
+    call_records (e ∷ past) ≡ set (call_records past) i (call_record (e ∷ past) c)
+unfolding call_records
 calls_one e past c i h q l f =
-    ap (λ (n : ℕ). map (call_row (e ∷ past)) (up_to n)) (count_same is_call e past h)
-    ∙ rows_set (call_row past) (call_row (e ∷ past)) (calls_made past) c i q l (λ k a b n. sym (f k a b n))
+    ap (λ (n : ℕ). map (call_record (e ∷ past)) (up_to n)) (count_same is_call e past h)
+    ∙ records_set (call_record past) (call_record (e ∷ past)) (calls_made past) c i q l (λ k a b n. sym (f k a b n))
 
 -- ---- the waiting calls
 

@@ -1,4 +1,4 @@
--- Rows: what a definition gives at the numbers 1 to n, and how they change.
+-- Records: what a definition gives at the numbers 1 to n, and how they change.
 use Rattle.std.proofs.Common.{◌≡◌, ◌≢◌, refl, sym, ◌∙◌, ap, ℕ, suc, zero, ◌+◌, ◌<◌, ◌≤◌, Bool, true, false, cond, ◌||◌, ◌&&◌, List, [], ◌∷◌, ◌++◌, length, map, Option, Some, None, is_some, arith, add-one, slice_get, filter, set, ◌⊎◌, inl, inr, ◌==◌}
 use Rattle.std.specs.List.{list_any, range_with_len, find}
 use Rattle.std.proofs.lemmas.List.{map-append}
@@ -131,16 +131,16 @@ any_found p a (suc n) h = by (p a) refl h (any_found p (a + 1) n)
     by true q h again = (a, omega arith, omega arith, q)
     by false q h again = let r = again h in (r.0, omega (arith, r.1), omega (arith, r.2), r.3)
 
--- ---- rows
+-- ---- records
 
--- what agrees at each number has the same rows
-pub rows_same : {A : Type 0} (f g : ℕ → A) (n : ℕ) → ((k : ℕ) → 1 ≤ k → k ≤ n → f k ≡ g k) → map f (up_to n) ≡ map g (up_to n)
+-- what agrees at each number has the same records
+pub records_same : {A : Type 0} (f g : ℕ → A) (n : ℕ) → ((k : ℕ) → 1 ≤ k → k ≤ n → f k ≡ g k) → map f (up_to n) ≡ map g (up_to n)
 unfolding up_to
-rows_same f g n h = map_range f g 1 n (λ k l u. h k l (omega (arith, u)))
+records_same f g n h = map_range f g 1 n (λ k l u. h k l (omega (arith, u)))
 
--- one row more
-pub rows_more : {A : Type 0} (f : ℕ → A) (n : ℕ) → map f (up_to (n + 1)) ≡ map f (up_to n) ++ f (n + 1) ∷ []
-rows_more f n = ap (map f) (up_to_more n) ∙ map-append f (up_to n) _
+-- one record more
+pub records_more : {A : Type 0} (f : ℕ → A) (n : ℕ) → map f (up_to (n + 1)) ≡ map f (up_to n) ++ f (n + 1) ∷ []
+records_more f n = ap (map f) (up_to_more n) ∙ map-append f (up_to n) _
 
 -- one place of a range changed
 pub set_range : {A : Type 0} (f g : ℕ → A) (a n i : ℕ) → i < n → ((k : ℕ) → a ≤ k → k < a + n → k ≢ a + i → f k ≡ g k) → map g (range_with_len a n) ≡ set (map f (range_with_len a n)) i (g (a + i))
@@ -151,13 +151,13 @@ set_range f g a (suc n) (suc i) l h =
     rw (h a (omega arith) (omega arith) (omega arith), set_range f g (a + 1) n i (omega (arith, l)) (λ k l u d. h k (omega (arith, l)) (omega (arith, u)) (omega (arith, d))))
     (ap (λ (k : ℕ). g a ∷ set (map f (range_with_len (a + 1) n)) i (g k)) (omega arith))
 
--- one row changed
-pub rows_set : {A : Type 0} (f g : ℕ → A) (n c i : ℕ) → c ≡ i + 1 → c ≤ n → ((k : ℕ) → 1 ≤ k → k ≤ n → k ≢ c → f k ≡ g k) → map g (up_to n) ≡ set (map f (up_to n)) i (g c)
+-- one record changed
+pub records_set : {A : Type 0} (f g : ℕ → A) (n c i : ℕ) → c ≡ i + 1 → c ≤ n → ((k : ℕ) → 1 ≤ k → k ≤ n → k ≢ c → f k ≡ g k) → map g (up_to n) ≡ set (map f (up_to n)) i (g c)
 unfolding up_to
-rows_set f g n c i e l h =
+records_set f g n c i e l h =
     set_range f g 1 n i (omega (arith, e, l)) (λ k a b d. h k a (omega (arith, b)) (λ z. d (omega (arith, z, e)))) ∙ ap (λ (k : ℕ). set (map f (range_with_len 1 n)) i (g k)) (omega (arith, e))
 
--- rows of rows
+-- records of records
 pub map_map : {A B C : Type 0} (f : B → C) (g : A → B) (xs : List A) → map (λ x. f (g x)) xs ≡ map f (map g xs)
 map_map f g [] = refl
 map_map f g (x ∷ xs) = ap (λ ys. f (g x) ∷ ys) (map_map f g xs)
@@ -168,15 +168,15 @@ get_range f a zero i l = absurd (omega (arith, l))
 get_range f a (suc n) zero l = ap (λ (k : ℕ). Some (f k)) (omega arith)
 get_range f a (suc n) (suc i) l = get_range f (a + 1) n i (omega (arith, l)) ∙ ap (λ (k : ℕ). Some (f k)) (omega arith)
 
--- a row
-pub rows_get : {A : Type 0} (f : ℕ → A) (n c i : ℕ) → c ≡ i + 1 → c ≤ n → slice_get (map f (up_to n)) i ≡ Some (f c)
+-- a record
+pub records_get : {A : Type 0} (f : ℕ → A) (n c i : ℕ) → c ≡ i + 1 → c ≤ n → slice_get (map f (up_to n)) i ≡ Some (f c)
 unfolding up_to
-rows_get f n c i e l = get_range f 1 n i (omega (arith, e, l)) ∙ ap (λ (k : ℕ). Some (f k)) (omega (arith, e))
+records_get f n c i e l = get_range f 1 n i (omega (arith, e, l)) ∙ ap (λ (k : ℕ). Some (f k)) (omega (arith, e))
 
--- how many rows there are
-pub rows_length : {A : Type 0} (f : ℕ → A) (n : ℕ) → length (map f (up_to n)) ≡ n
+-- how many records there are
+pub records_length : {A : Type 0} (f : ℕ → A) (n : ℕ) → length (map f (up_to n)) ≡ n
 unfolding up_to
-rows_length f n = length-map-range_with_len f 1 n
+records_length f n = length-map-range_with_len f 1 n
 
 -- a filter behind a filter of numbers
 pub filter_behind : (r p q : ℕ → Bool) (a n : ℕ) → ((k : ℕ) → a ≤ k → k < a + n → p k ≡ q k) → filter p (filter r (range_with_len a n)) ≡ filter q (filter r (range_with_len a n))

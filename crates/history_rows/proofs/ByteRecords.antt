@@ -16,7 +16,7 @@ use Rattle.jx_model.specs.Tables.{extent_size, extent_bytes}
 use Rattle.jx_model.specs.Legal.{IsAdmittedPast}
 use Rattle.jx_base.proofs.BasicLaws.{ap2}
 use Rattle.jx_base.proofs.NthEntries.{nth_new, nth_old, count_grows}
-use Rattle.history_rows.proofs.Rows.{map_range, not_that, is_that}
+use Rattle.history_rows.proofs.Records.{map_range, not_that, is_that}
 use Rattle.history_rows.proofs.CallActs.{entry}
 use Rattle.history_rows.proofs.Parts.{part_extent}
 use Rattle.std.specs.Option.{option_map, unwrap_or}

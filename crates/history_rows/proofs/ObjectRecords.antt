@@ -1,4 +1,4 @@
--- The rows of the memory objects after an entry more.
+-- The records of the memory objects after an entry more.
 use Rattle.std.proofs.Common.{◌≡◌, ◌≢◌, refl, sym, ◌∙◌, ap, ℕ, suc, zero, ◌+◌, ◌<◌, ◌≤◌, Bool, true, false, not, cond, ◌&&◌, ◌||◌, List, [], ◌∷◌, ◌++◌, length, map, replicate, Option, Some, None, arith, ◌==◌, if◌then◌else◌, ◌⊎◌, inl, inr, filter, length-append, append-nil}
 use Rattle.std.specs.List.{range_with_len}
 use Rattle.std.proofs.lemmas.List.{map-append}
@@ -16,10 +16,10 @@ use Rattle.jx_model.specs.Calls.{ends_domain}
 use Rattle.jx_model.specs.MemoryObjects.{Part, objects_of, objects_made, new_parts, extents_made, is_valid, ended_object, ends_one_of, lineage_of}
 use Rattle.jx_model.specs.Holding.{received_objects, holds_object, holders}
 use Rattle.jx_model.specs.Growth.{new_object_numbers}
-use Rattle.jx_model.specs.Tables.{ObjectRow, object_row, object_rows, call_rows}
+use Rattle.jx_model.specs.Tables.{ObjectRecord, object_record, object_records, call_records}
 use Rattle.jx_model.specs.Legal.{IsNext, IsAdmittedPast}
 use Rattle.jx_base.proofs.BasicLaws.{ap2, ap3, up_to_append, eq_of, and_false}
-use Rattle.history_rows.proofs.Rows.{rows_same, filter_range, filter_none, not_that, is_that, same_or_not}
+use Rattle.history_rows.proofs.Records.{records_same, filter_range, filter_none, not_that, is_that, same_or_not}
 use Rattle.jx_base.proofs.NthEntries.{count_same}
 use Rattle.history_rows.proofs.Actors.{IsMade, live_made}
 use Rattle.history_rows.proofs.Given.{new_numbers}
@@ -27,23 +27,23 @@ use Rattle.history_rows.proofs.Holders.{holds_step, keeps_none, holders_same, gi
 use Rattle.history_rows.proofs.Parts.{valid_new, valid_old, valid_same}
 use Rattle.history_rows.proofs.Riding.{riding_new, riding_same}
 
--- ---- the rows of old and new objects
+-- ---- the records of old and new objects
 
 -- how many objects an entry makes
 abbrev pub parts_made : Entry → Past → ℕ
 parts_made e past = length (new_parts (objects_of past) (extents_made past + 1) e.act e.reply)
 
--- the rows of the old objects, and behind them those of the new ones
-pub objects_split : (e : Entry) (past : Past) → object_rows (e ∷ past) ≡ map (object_row (e ∷ past)) (up_to (objects_made past)) ++ map (object_row (e ∷ past)) (range_with_len (objects_made past + 1) (parts_made e past))
-unfolding object_rows objects_made objects_of
+-- the records of the old objects, and behind them those of the new ones
+pub objects_split : (e : Entry) (past : Past) → object_records (e ∷ past) ≡ map (object_record (e ∷ past)) (up_to (objects_made past)) ++ map (object_record (e ∷ past)) (range_with_len (objects_made past + 1) (parts_made e past))
+unfolding object_records objects_made objects_of
 objects_split e past =
-    ap (λ (n : ℕ). map (object_row (e ∷ past)) (up_to n)) (length-append (objects_of past) (new_parts (objects_of past) (extents_made past + 1) e.act e.reply))
-    ∙ ap (map (object_row (e ∷ past))) (up_to_append (objects_made past) (parts_made e past))
-    ∙ map-append (object_row (e ∷ past)) (up_to (objects_made past)) _
+    ap (λ (n : ℕ). map (object_record (e ∷ past)) (up_to n)) (length-append (objects_of past) (new_parts (objects_of past) (extents_made past + 1) e.act e.reply))
+    ∙ ap (map (object_record (e ∷ past))) (up_to_append (objects_made past) (parts_made e past))
+    ∙ map-append (object_record (e ∷ past)) (up_to (objects_made past)) _
 
--- the row of an object that domain d just made
-abbrev pub new_object_row : ℕ → ObjectRow
-new_object_row d = record { valid = true; holders = d ∷ []; riding = 0 }
+-- the record of an object that domain d just made
+abbrev pub new_object_record : ℕ → ObjectRecord
+new_object_record d = record { valid = true; holders = d ∷ []; riding = 0 }
 
 -- the one number of a range that is that number
 pub filter_single : (d a n : ℕ) → a ≤ d → d < a + n → filter (λ x. d == x) (range_with_len a n) ≡ d ∷ []
@@ -79,12 +79,12 @@ makes_gives (act.Split k at) (reply.Pair x y) m h = h
 makes_gives (act.Revoke k) (reply.Object x) m h = h
 makes_gives _ _ m h = cc
 
--- the row of a new object
-pub object_row_new : (s : System) (e : Entry) (past : Past) (m : ℕ) → IsAdmittedPast s (e ∷ past) → is_birth e ≡ false → ended_by e ≡ None → is_live past e.domain.0 ≡ true → objects_made past < m → m ≤ objects_made past + parts_made e past →
-    object_row (e ∷ past) m ≡ new_object_row e.domain.0
-unfolding object_row holders ends_domain is_own up_to objects_made objects_of
-object_row_new s e past m a b z v l u =
-    ap3 (λ (x : Bool) (hs : List ℕ) (n : ℕ). let row : ObjectRow = record { valid = x; holders = hs; riding = n } in row)
+-- the record of a new object
+pub object_record_new : (s : System) (e : Entry) (past : Past) (m : ℕ) → IsAdmittedPast s (e ∷ past) → is_birth e ≡ false → ended_by e ≡ None → is_live past e.domain.0 ≡ true → objects_made past < m → m ≤ objects_made past + parts_made e past →
+    object_record (e ∷ past) m ≡ new_object_record e.domain.0
+unfolding object_record holders ends_domain is_own up_to objects_made objects_of
+object_record_new s e past m a b z v l u =
+    ap3 (λ (x : Bool) (hs : List ℕ) (n : ℕ). let item : ObjectRecord = record { valid = x; holders = hs; riding = n } in item)
     (valid_new e past m l made)
     (ap (λ (n : ℕ). filter (λ d. holds_object (e ∷ past) d m) (range_with_len 1 n)) (count_same is_birth e past b)
     ∙ filter_range (λ d. holds_object (e ∷ past) d m) (λ d. e.domain.0 == d) 1 (domains_made past) (λ d x y. one d x (omega (arith, y)))
@@ -116,56 +116,56 @@ object_row_new s e past m a b z v l u =
         ∙ ap3 (λ (w : Option (ℕ × Reason)) (c k : Bool). is_live past d && not (ends_domain w (Some d)) && (if (e.domain.0 == d) && c then true else if drops_object e d m then false else k)) z given (keeps_none past d m l)
         ∙ turn (e.domain.0 == d) (is_live past d) (drops_object e d m) (lives d)
 
--- the rows of all new objects
+-- the records of all new objects
 pub objects_new : (s : System) (e : Entry) (past : Past) → IsAdmittedPast s (e ∷ past) → is_birth e ≡ false → ended_by e ≡ None → is_live past e.domain.0 ≡ true →
-    map (object_row (e ∷ past)) (range_with_len (objects_made past + 1) (parts_made e past)) ≡ replicate (parts_made e past) (new_object_row e.domain.0)
+    map (object_record (e ∷ past)) (range_with_len (objects_made past + 1) (parts_made e past)) ≡ replicate (parts_made e past) (new_object_record e.domain.0)
 objects_new s e past a b z v =
-    all (objects_made past + 1) (parts_made e past) (λ m l u. object_row_new s e past m a b z v (omega (arith, l)) (omega (arith, u)))
+    all (objects_made past + 1) (parts_made e past) (λ m l u. object_record_new s e past m a b z v (omega (arith, l)) (omega (arith, u)))
   where
-    all : (x n : ℕ) → ((m : ℕ) → x ≤ m → m < x + n → object_row (e ∷ past) m ≡ new_object_row e.domain.0) → map (object_row (e ∷ past)) (range_with_len x n) ≡ replicate n (new_object_row e.domain.0)
+    all : (x n : ℕ) → ((m : ℕ) → x ≤ m → m < x + n → object_record (e ∷ past) m ≡ new_object_record e.domain.0) → map (object_record (e ∷ past)) (range_with_len x n) ≡ replicate n (new_object_record e.domain.0)
     all x zero h = refl
-    all x (suc n) h = ap2 (λ (y : ObjectRow) (ys : List ObjectRow). y ∷ ys) (h x (omega arith) (omega arith)) (all (x + 1) n (λ m l u. h m (omega (arith, l)) (omega (arith, u))))
+    all x (suc n) h = ap2 (λ (y : ObjectRecord) (ys : List ObjectRecord). y ∷ ys) (h x (omega arith) (omega arith)) (all (x + 1) n (λ m l u. h m (omega (arith, l)) (omega (arith, u))))
 
--- an entry that makes objects adds their rows behind those of the old ones, which stay or change each by itself
+-- an entry that makes objects adds their records behind those of the old ones, which stay or change each by itself
 pub objects_after : (s : System) (e : Entry) (past : Past) → IsAdmittedPast s (e ∷ past) → is_birth e ≡ false → ended_by e ≡ None → is_live past e.domain.0 ≡ true →
-    object_rows (e ∷ past) ≡ map (object_row (e ∷ past)) (up_to (objects_made past)) ++ replicate (parts_made e past) (new_object_row e.domain.0)
-objects_after s e past a b z v = objects_split e past ∙ ap (λ (xs : List ObjectRow). map (object_row (e ∷ past)) (up_to (objects_made past)) ++ xs) (objects_new s e past a b z v)
+    object_records (e ∷ past) ≡ map (object_record (e ∷ past)) (up_to (objects_made past)) ++ replicate (parts_made e past) (new_object_record e.domain.0)
+objects_after s e past a b z v = objects_split e past ∙ ap (λ (xs : List ObjectRecord). map (object_record (e ∷ past)) (up_to (objects_made past)) ++ xs) (objects_new s e past a b z v)
 
 -- an entry that makes none
-pub objects_made_none : (e : Entry) (past : Past) → new_parts (objects_of past) (extents_made past + 1) e.act e.reply ≡ [] → object_rows (e ∷ past) ≡ map (object_row (e ∷ past)) (up_to (objects_made past))
+pub objects_made_none : (e : Entry) (past : Past) → new_parts (objects_of past) (extents_made past + 1) e.act e.reply ≡ [] → object_records (e ∷ past) ≡ map (object_record (e ∷ past)) (up_to (objects_made past))
 objects_made_none e past h =
     objects_split e past
-    ∙ ap (λ (ps : List Part). map (object_row (e ∷ past)) (up_to (objects_made past)) ++ map (object_row (e ∷ past)) (range_with_len (objects_made past + 1) (length ps))) h
+    ∙ ap (λ (ps : List Part). map (object_record (e ∷ past)) (up_to (objects_made past)) ++ map (object_record (e ∷ past)) (range_with_len (objects_made past + 1) (length ps))) h
     ∙ append-nil _
 
--- ---- the row of an old object
+-- ---- the record of an old object
 
--- an entry that hands over and drops none, ends no domain and no object, and leaves what calls carry, leaves an object's row
-pub object_row_same : (s : System) (e : Entry) (past : Past) (m : ℕ) → IsNext s past e → m ≤ objects_made past → (is_done e.reply ≡ false) ⊎ (ended_object e.act ≡ None) → ended_by e ≡ None →
-    ((d : ℕ) → gives_object e d m ≡ false) → ((d : ℕ) → drops_object e d m ≡ false) → call_rows (e ∷ past) ≡ call_rows past → object_row (e ∷ past) m ≡ object_row past m
-unfolding object_row
-object_row_same s e past m n l v z g r c =
-    ap3 (λ (x : Bool) (hs : List ℕ) (k : ℕ). let row : ObjectRow = record { valid = x; holders = hs; riding = k } in row)
+-- an entry that hands over and drops none, ends no domain and no object, and leaves what calls carry, leaves an object's record
+pub object_record_same : (s : System) (e : Entry) (past : Past) (m : ℕ) → IsNext s past e → m ≤ objects_made past → (is_done e.reply ≡ false) ⊎ (ended_object e.act ≡ None) → ended_by e ≡ None →
+    ((d : ℕ) → gives_object e d m ≡ false) → ((d : ℕ) → drops_object e d m ≡ false) → call_records (e ∷ past) ≡ call_records past → object_record (e ∷ past) m ≡ object_record past m
+unfolding object_record
+object_record_same s e past m n l v z g r c =
+    ap3 (λ (x : Bool) (hs : List ℕ) (k : ℕ). let item : ObjectRecord = record { valid = x; holders = hs; riding = k } in item)
     (valid_same e past m l v) (holders_same s e past m n (omega (arith, l, objects_grow e past)) z g r) (riding_same e past m c)
 
--- an entry that makes no objects and leaves each row leaves all
-pub objects_same : (e : Entry) (past : Past) → new_parts (objects_of past) (extents_made past + 1) e.act e.reply ≡ [] → ((m : ℕ) → 1 ≤ m → m ≤ objects_made past → object_row (e ∷ past) m ≡ object_row past m) → object_rows (e ∷ past) ≡ object_rows past
-unfolding object_rows
-objects_same e past h f = objects_made_none e past h ∙ rows_same (object_row (e ∷ past)) (object_row past) (objects_made past) f
+-- an entry that makes no objects and leaves each record leaves all
+pub objects_same : (e : Entry) (past : Past) → new_parts (objects_of past) (extents_made past + 1) e.act e.reply ≡ [] → ((m : ℕ) → 1 ≤ m → m ≤ objects_made past → object_record (e ∷ past) m ≡ object_record past m) → object_records (e ∷ past) ≡ object_records past
+unfolding object_records
+objects_same e past h f = objects_made_none e past h ∙ records_same (object_record (e ∷ past)) (object_record past) (objects_made past) f
 
--- ---- the rows of old objects where new ones are made
+-- ---- the records of old objects where new ones are made
 
 above_range : (a n m : ℕ) → m < a → contains_number (range_with_len a n) m ≡ false
 unfolding contains_number
 above_range a zero m l = refl
 above_range a (suc n) m l = ap2 (λ (x y : Bool). x || y) (not_that a m (λ z. omega (arith, z, l))) (above_range (a + 1) n m (omega (arith, l)))
 
--- an entry that hands over only what it makes leaves who holds an old object, and who carries it where the calls' rows stay
-pub object_row_beside : (s : System) (e : Entry) (past : Past) (m : ℕ) → IsAdmittedPast s (e ∷ past) → m ≤ objects_made past → received_objects e.act e.reply ≡ new_object_numbers e.act e.reply → ended_by e ≡ None →
-    ((d : ℕ) → drops_object e d m ≡ false) → call_rows (e ∷ past) ≡ call_rows past → object_row (e ∷ past) m ≡ record (object_row past m) { valid = is_valid past m && not (ends_one_of (lineage_of (objects_of past) m) e) }
-unfolding object_row
-object_row_beside s e past m a l q z r c =
-    ap3 (λ (x : Bool) (hs : List ℕ) (k : ℕ). let row : ObjectRow = record { valid = x; holders = hs; riding = k } in row)
+-- an entry that hands over only what it makes leaves who holds an old object, and who carries it where the calls' records stay
+pub object_record_beside : (s : System) (e : Entry) (past : Past) (m : ℕ) → IsAdmittedPast s (e ∷ past) → m ≤ objects_made past → received_objects e.act e.reply ≡ new_object_numbers e.act e.reply → ended_by e ≡ None →
+    ((d : ℕ) → drops_object e d m ≡ false) → call_records (e ∷ past) ≡ call_records past → object_record (e ∷ past) m ≡ record (object_record past m) { valid = is_valid past m && not (ends_one_of (lineage_of (objects_of past) m) e) }
+unfolding object_record
+object_record_beside s e past m a l q z r c =
+    ap3 (λ (x : Bool) (hs : List ℕ) (k : ℕ). let item : ObjectRecord = record { valid = x; holders = hs; riding = k } in item)
     (valid_old e past m l) (holders_same s e past m a.0 (omega (arith, l, objects_grow e past)) z none r) (riding_same e past m c)
   where
     none : (d : ℕ) → gives_object e d m ≡ false
