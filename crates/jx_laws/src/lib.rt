@@ -6,7 +6,7 @@ ghost use Rattle.jx_laws.specs.Laws.{CopiesHold, FreedHolds, OneAnswerHolds, Rec
 ghost use Rattle.jx_model.specs.Legal.{IsAdmitted};
 ghost use Rattle.jx_laws.specs.Bounds.{MemoryIsInBounds};
 ghost use Rattle.jx_laws.specs.Ended.{EndsJustWhatDerives};
-ghost use Rattle.jx_laws.specs.Handed.{ParcelsWereHeld};
+ghost use Rattle.jx_laws.specs.Handed.{ParcelsWereHeld, PortalsAreKept};
 ghost use Rattle.jx_laws.specs.Order.{CallsGoInOrder, ServedByOneThread};
 
 use jx_base::{History, System};
@@ -74,4 +74,10 @@ pub fn parcels_were_held(system: &System, history: &History)
 /// A new object is valid; a valid one stays so unless what it derives from is revoked or split, and then never is again.
 pub fn revokes_end_what_derives(history: &History)
     ensures { EndsJustWhatDerives (past_of history.now) }
+{}
+
+/// A live domain holds exactly the portals that entries of its own gave it.
+pub fn portals_are_kept(system: &System, history: &History)
+    requires { IsAdmitted system.now history.now }
+    ensures { PortalsAreKept (past_of history.now) }
 {}

@@ -8,3 +8,4 @@ pub mod CallSteps
 pub mod Serving
 pub mod RefusedThreads
 pub mod Reasons
+pub mod Exported

@@ -1,6 +1,6 @@
--- A portal that an entry hands over is to a service that was made, and so is one that a name is bound to.
+-- A live domain holds a portal exactly where an entry of its own gave it one: each is to a service that was made.
 use Rattle.std.proofs.Common.{◌≡◌, refl, sym, ◌∙◌, ap, subst, ℕ, ◌+◌, ◌<◌, ◌≤◌, Bool, true, false, not, ◌&&◌, ◌||◌, List, [], ◌∷◌, ◌++◌, length, Option, Some, None, is_some, arith, ◌==◌, if◌then◌else◌, ◌⊎◌, inl, inr}
-use Rattle.std.specs.Prelude.{nat_le, flat_map}
+use Rattle.std.specs.Prelude.{nat_le, nat_lt, flat_map}
 use Rattle.std.specs.List.{list_any, AllByRecursion}
 use Rattle.std.specs.Str.{bytes_eq}
 use Rattle.std.proofs.lemmas.Bool.Decides.{nat_tests}
@@ -21,40 +21,21 @@ use Rattle.jx_base.specs.declared.program.System.{System}
 use Rattle.jx_base.specs.Basics.{contains_number, is_number, passes}
 use Rattle.program_model.specs.ParcelParts.{parcel_portals, parcel_cells, word_portal}
 use Rattle.jx_base.specs.Histories.{Past, is_own, is_done, nth_entry}
-use Rattle.jx_model.specs.Domains.{is_live}
-use Rattle.jx_model.specs.Portals.{is_export, exported_interface, services_made, interface_of, export_of, received_service, received_parcel, gives_portal, holds_portal, bound_by_act, last_bound, bound_service}
+use Rattle.jx_model.specs.Domains.{is_made, is_live}
+use Rattle.jx_model.specs.Portals.{is_export, exported_interface, services_made, is_exported, interface_of, received_service, received_parcel, gives_portal, keeps_portal, holds_portal, bound_service}
+use Rattle.jx_model.specs.Permits.{is_zero_act}
 use Rattle.jx_model.specs.Calls.{Answer, Asked, is_call, asked_by, asked_of, call_entry, answer_of, answered_by, answered_by_act, answer_by_reply, refused_answer, thrown, ends_server, first_since, calls_made}
 use Rattle.jx_model.specs.WellMade.{IsWellMade, IsParcelIn, IsWordIn}
 use Rattle.jx_model.specs.Replies.{reply_to, job_of, or_done, answer_reply, looked_up, portal_reply, new_service, bound, ◌refuses◌else◌}
 use Rattle.jx_model.specs.Legal.{IsNext, IsAdmittedPast}
 use Rattle.jx_base.proofs.BasicLaws.{both, eq_of, ap2}
 use Rattle.jx_base.proofs.NthEntries.{nth_passes, count_new, count_grows}
-use Rattle.history_rows.proofs.Uses.{undone, turned}
+use Rattle.jx_model.proofs.Exported.{IsExported, exported_is, is_exported_at, services_grow, exported_stays, interface_made, portal_made}
+use Rattle.jx_laws.proofs.Living.{actor_live, live_made, made_stays}
+use Rattle.jx_laws.specs.Handed.{PortalsAreKept}
 use Rattle.std.specs.Option.{option_and_then}
 
 -- ---- portals in parcels
-
--- a service that was made has a number
-pub record IsExported (past : Past) (k : ℕ) : Type 0 where
-  pub low : 1 ≤ k
-  pub high : k ≤ services_made past
-
--- services stay
-pub services_grow : (e : Entry) (past : Past) → services_made past ≤ services_made (e ∷ past)
-services_grow e past = count_grows is_export e past
-
--- a service that was made stays so
-pub exported_stays : (e : Entry) (past : Past) (k : ℕ) → IsExported past k → IsExported (e ∷ past) k
-exported_stays e past k h = record { low = h.low; high = omega (arith, h.high, services_grow e past) }
-
--- a service with an interface was made
-pub interface_made : (past : Past) (k : ℕ) (c : ClassId) → interface_of past k ≡ Some c → IsExported past k
-unfolding interface_of export_of
-interface_made past k c h = by (nth_entry is_export past k) refl h
-  where
-    by : (o : Option Entry) → nth_entry is_export past k ≡ o → option_and_then (λ e. exported_interface e.act e.reply) o ≡ Some c → IsExported past k
-    by None q h = cc
-    by (Some e) q h = let x = nth_passes is_export past k e q in record { low = x.1; high = x.2 }
 
 in_either : (xs ys : List ℕ) (k : ℕ) → contains_number (xs ++ ys) k ≡ true → (contains_number xs k ≡ true) ⊎ (contains_number ys k ≡ true)
 unfolding contains_number
@@ -268,7 +249,7 @@ gives_none s e past k a l = ap2 (λ (x y : Bool). x || y) (service (received_ser
         by true w = clash l (exported_stays e past k (received_made s e past p k a q w))
 
 -- nobody was handed a portal to a service that isn't made
-pub given_none : (s : System) (past : Past) (d k : ℕ) → IsAdmittedPast s past → (k ≡ 0) ⊎ (services_made past < k) → list_any (λ e. is_own d e && gives_portal k e) past ≡ false
+given_none : (s : System) (past : Past) (d k : ℕ) → IsAdmittedPast s past → (k ≡ 0) ⊎ (services_made past < k) → list_any (λ e. is_own d e && gives_portal k e) past ≡ false
 given_none s [] d k a l = refl
 given_none s (e ∷ past) d k a l =
     ap2 (λ (x y : Bool). (is_own d e && x) || y) (gives_none s e past k a l) (given_none s past d k a.1 (before l)) ∙ by (is_own d e)
@@ -281,41 +262,81 @@ given_none s (e ∷ past) d k a l =
     by true = refl
     by false = refl
 
--- a service whose portal a domain holds was made
-pub held_made : (s : System) (past : Past) (d k : ℕ) → IsAdmittedPast s past → holds_portal past d k ≡ true → IsExported past k
-unfolding holds_portal
-held_made s past d k a h = record { low = low (nat_le 1 k) refl; high = high (nat_le k (services_made past)) refl }
+-- ---- who is handed a portal
+
+-- a number that fails the test wasn't given
+unexported : (past : Past) (k : ℕ) → is_exported past k ≡ false → (k ≡ 0) ⊎ (services_made past < k)
+unfolding is_exported
+unexported past k h = by (nat_lt 0 k) refl (nat_le k (services_made past)) refl h
   where
-    within : (x y : ℕ) → nat_le x y ≡ true → x ≤ y
-    within x y q = grind (arith, nat_tests)
+    zeroth : (k : ℕ) → nat_lt 0 k ≡ false → k ≡ 0
+    zeroth k q = grind (arith, nat_tests)
 
-    beyond : (x y : ℕ) → nat_le x y ≡ false → y < x
-    beyond x y q = grind (arith, nat_tests)
+    beyond : (k n : ℕ) → nat_le k n ≡ false → n < k
+    beyond k n q = grind (arith, nat_tests)
 
-    never : {A : Type 0} → (k ≡ 0) ⊎ (services_made past < k) → A
-    never x = cc (given_none s past d k a x, (both (is_live past d) (list_any (λ e. is_own d e && gives_portal k e) past) h).1)
+    by : (x : Bool) → nat_lt 0 k ≡ x → (y : Bool) → nat_le k (services_made past) ≡ y → (x && y) ≡ false → (k ≡ 0) ⊎ (services_made past < k)
+    by false q y r h = inl (zeroth k q)
+    by true q false r h = inr (beyond k (services_made past) r)
+    by true q true r h = cc
 
-    low : (b : Bool) → nat_le 1 k ≡ b → 1 ≤ k
-    low true q = within 1 k q
-    low false q = never (inl (omega (arith, beyond 1 k q)))
+-- an act that hands over a portal isn't Domain Zero's
+giving_act : (k : ℕ) (a : Act) (r : Reply) → (is_number (received_service a r) k || passes (λ p. contains_number (parcel_portals p) k) (received_parcel a r)) ≡ true → is_zero_act a ≡ false
+unfolding received_service received_parcel is_zero_act is_number passes
+giving_act k (act.Create t) r h = cc
+giving_act k act.Quiet r h = cc
+giving_act k act.Halt r h = cc
+giving_act k _ r h = refl
 
-    high : (b : Bool) → nat_le k (services_made past) ≡ b → k ≤ services_made past
-    high true q = within k (services_made past) q
-    high false q = never (inr (beyond k (services_made past) q))
+-- a domain that an entry hands a portal was made
+handed_made : (s : System) (e : Entry) (past : Past) (d k : ℕ) → IsNext s past e → (is_own d e && gives_portal k e) ≡ true → is_made past d ≡ true
+unfolding is_own gives_portal
+handed_made s e past d k n h =
+    let x = both (e.domain.0 == d) (is_number (received_service e.act e.reply) k || passes (λ p. contains_number (parcel_portals p) k) (received_parcel e.act e.reply)) h in
+    ap (is_made past) (sym (eq_of e.domain.0 d x.0)) ∙ live_made past e.domain.0 (actor_live s past e (giving_act k e.act e.reply x.1) n)
 
--- a service that a name was last bound to was made
-pub bound_made : (s : System) (past : Past) (name : List ℕ) (k : ℕ) → IsAdmittedPast s past → last_bound past name ≡ Some k → IsExported past k
-unfolding last_bound bound_by_act reply_to bound
-bound_made s [] name k a h = cc
-bound_made s (e ∷ past) name k a h = by e.act e.reply a.0.reply h (bound_made s past name k a.1)
+-- a domain that wasn't made was handed none
+unmade_handed : (s : System) (past : Past) (d k : ℕ) → IsAdmittedPast s past → is_made past d ≡ false → list_any (λ e. is_own d e && gives_portal k e) past ≡ false
+unmade_handed s [] d k a h = refl
+unmade_handed s (e ∷ past) d k a h =
+    ap2 (λ (x y : Bool). x || y) (by (is_own d e && gives_portal k e) refl) (unmade_handed s past d k a.1 before)
   where
-    by : (b : Act) (r : Reply) → r ≡ reply_to s past e.domain.0 b → (elim (bound_by_act name b r) as (λ _. Option ℕ) [ Some x ↦ Some x | None ↦ last_bound past name ]) ≡ Some k → (last_bound past name ≡ Some k → IsExported past k) → IsExported (e ∷ past) k
-    by (act.Bind n j) r q h again = binds (is_done r && bytes_eq n name) refl h
+    before : is_made past d ≡ false
+    before = by (is_made past d) refl
       where
-        binds : (b : Bool) → (is_done r && bytes_eq n name) ≡ b → (elim (if b then Some j.0 else None) as (λ _. Option ℕ) [ Some x ↦ Some x | None ↦ last_bound past name ]) ≡ Some k → IsExported (e ∷ past) k
-        binds true w h =
-            let z : j.0 ≡ k = cc in
-            let d = undone (not (holds_portal past e.domain.0 j.0)) _ _ (ap is_done (sym q) ∙ (both (is_done r) (bytes_eq n name) w).0) in
-            exported_stays e past k (subst (IsExported past) z (held_made s past e.domain.0 j.0 a.1 (turned (holds_portal past e.domain.0 j.0) d.0)))
-        binds false w h = exported_stays e past k (again h)
-    by _ r q h again = exported_stays e past k (again h)
+        by : (b : Bool) → is_made past d ≡ b → b ≡ false
+        by false q = refl
+        by true q = sym (made_stays e past d q) ∙ h
+
+    by : (b : Bool) → (is_own d e && gives_portal k e) ≡ b → b ≡ false
+    by false q = refl
+    by true q = sym (handed_made s e past d k a.0 q) ∙ before
+
+-- what a made domain keeps is what it was handed
+kept_is_handed : (s : System) (past : Past) (d k : ℕ) → IsAdmittedPast s past → is_made past d ≡ true → keeps_portal past d k ≡ list_any (λ e. is_own d e && gives_portal k e) past
+unfolding keeps_portal
+kept_is_handed s [] d k a m = refl
+kept_is_handed s (e ∷ past) d k a m = by (is_exported (e ∷ past) k) refl (old (is_made past d) refl (kept_is_handed s past d k a.1))
+  where
+    old : (b : Bool) → is_made past d ≡ b → (is_made past d ≡ true → keeps_portal past d k ≡ list_any (λ e. is_own d e && gives_portal k e) past) → keeps_portal past d k ≡ list_any (λ e. is_own d e && gives_portal k e) past
+    old true q again = again q
+    old false q again = none (keeps_portal past d k) refl ∙ sym (unmade_handed s past d k a.1 q)
+      where
+        none : (b : Bool) → keeps_portal past d k ≡ b → b ≡ false
+        none false w = refl
+        none true w = sym (portal_made past d k w).0 ∙ q
+
+    by : (b : Bool) → is_exported (e ∷ past) k ≡ b → keeps_portal past d k ≡ list_any (λ e. is_own d e && gives_portal k e) past → (is_made (e ∷ past) d && b && ((is_own d e && gives_portal k e) || keeps_portal past d k)) ≡ ((is_own d e && gives_portal k e) || list_any (λ e. is_own d e && gives_portal k e) past)
+    by true q again =
+        ap (λ (x : Bool). x && true && ((is_own d e && gives_portal k e) || keeps_portal past d k)) m
+        ∙ ap (λ (x : Bool). (is_own d e && gives_portal k e) || x) again
+    by false q again = ap (λ (x : Bool). x && false && ((is_own d e && gives_portal k e) || keeps_portal past d k)) m ∙ sym (given_none s (e ∷ past) d k a (unexported (e ∷ past) k q))
+
+-- a live domain holds the portals that entries of its own gave it
+pub portals_kept : (s : System) (past : Past) → IsAdmittedPast s past → PortalsAreKept past
+unfolding holds_portal
+portals_kept s past a d k = by (is_live past d) refl
+  where
+    by : (b : Bool) → is_live past d ≡ b → (b && keeps_portal past d k) ≡ (b && list_any (λ e. is_own d e && gives_portal k e) past)
+    by false q = refl
+    by true q = kept_is_handed s past d k a (live_made past d q)
