@@ -112,10 +112,10 @@ no_export past k (inl q) = by (nth_entry is_export past k) refl
     by (Some x) z = absurd (omega (arith, (nth_passes is_export past k x z).1, q))
 
 -- the records say a service's owner
-pub owner_by_records : (past : Past) (k : ℕ) → owner_of past k ≡ option_map (λ item. item.owner) (numbered (service_records past) k)
+pub owner_by_records : (s : System) (past : Past) (k : ℕ) → owner_of past k ≡ option_map (λ item. item.owner) (numbered (service_records s past) k)
 unfolding service_records service_record owner_of export_of
-owner_by_records past k =
-    by_number (service_record past) (λ (item : ServiceRecord). item.owner) (services_made past) k (owner_of past k) (λ l u. there (some_of (nth_entry is_export past k) (nth_there is_export past k l u)))
+owner_by_records s past k =
+    by_number (service_record s past) (λ (item : ServiceRecord). item.owner) (services_made past) k (owner_of past k) (λ l u. there (some_of (nth_entry is_export past k) (nth_there is_export past k l u)))
     (λ h. ap (option_map (λ (e : Entry). e.domain.0)) (no_export past k h))
   where
     there : (x : Entry) × (nth_entry is_export past k ≡ Some x) → owner_of past k ≡ Some (unwrap_or (owner_of past k) 0)
@@ -160,11 +160,11 @@ then_same (Some k) f g h = h k
 
 -- the records say which thread that is
 pub choice_thread_by_records : (s : System) (past : Past) (d : ℕ) (a : Act) →
-    choice_thread past d a ≡ choice_thread_by (domain_records s past) (thread_records past d) (service_records past) (call_records past) (waiting_calls past) d a
+    choice_thread past d a ≡ choice_thread_by (domain_records s past) (thread_records past d) (service_records s past) (call_records past) (waiting_calls past) d a
 unfolding choice_thread taking_thread is_head server_of resuming_thread going_thread idle_thread
 choice_thread_by_records s past d (act.Take c) =
     ap3 (λ (x y z : Option ℕ). if is_number x d && is_number y c.0 then z else None)
-    (then_same (service_of_call past c.0) (owner_of past) (owner_in (service_records past)) (owner_by_records past) ∙ ap (λ (o : Option ℕ). option_and_then (owner_in (service_records past)) o) (service_by_records past c.0))
+    (then_same (service_of_call past c.0) (owner_of past) (owner_in (service_records s past)) (owner_by_records s past) ∙ ap (λ (o : Option ℕ). option_and_then (owner_in (service_records s past)) o) (service_by_records past c.0))
     (then_same (service_of_call past c.0) (queue_head past) (head_in (call_records past) (waiting_calls past)) (head_by_records past) ∙ ap (λ (o : Option ℕ). option_and_then (head_in (call_records past) (waiting_calls past)) o) (service_by_records past c.0))
     (then_same (service_of_call past c.0) (λ k. thread_where past d (is_idle_for k)) (λ k. thread_in (thread_records past d) (is_idle_for k)) (λ k. thread_by_records past d (is_idle_for k))
     ∙ ap (λ (o : Option ℕ). option_and_then (λ k. thread_in (thread_records past d) (is_idle_for k)) o) (service_by_records past c.0))
@@ -182,20 +182,20 @@ domain_thread_by domains threads services calls waiting d a =
 
 -- the records say in which thread a domain's act may come
 pub domain_thread_by_records : (s : System) (past : Past) (d : ℕ) (a : Act) →
-    domain_thread past d a ≡ domain_thread_by (domain_records s past) (thread_records past d) (service_records past) (call_records past) (waiting_calls past) d a
+    domain_thread past d a ≡ domain_thread_by (domain_records s past) (thread_records past d) (service_records s past) (call_records past) (waiting_calls past) d a
 unfolding domain_thread
 domain_thread_by_records s past d a =
     by (running_thread past d)
     ∙ ap (λ (o : Option ℕ). elim o as (λ _. Option ℕ) [
       | Some t ↦ if performs_by (thread_records past d) t a then Some t else None
-      | None ↦ if lives_in (domain_records s past) d then choice_thread_by (domain_records s past) (thread_records past d) (service_records past) (call_records past) (waiting_calls past) d a else None
+      | None ↦ if lives_in (domain_records s past) d then choice_thread_by (domain_records s past) (thread_records past d) (service_records s past) (call_records past) (waiting_calls past) d a else None
     ]) (running_by_records s past d)
   where
     by : (o : Option ℕ) →
         (elim o as (λ _. Option ℕ) [ Some t ↦ if may_perform past d t a then Some t else None | None ↦ if is_live past d then choice_thread past d a else None ])
         ≡ (elim o as (λ _. Option ℕ) [
           | Some t ↦ if performs_by (thread_records past d) t a then Some t else None
-          | None ↦ if lives_in (domain_records s past) d then choice_thread_by (domain_records s past) (thread_records past d) (service_records past) (call_records past) (waiting_calls past) d a else None
+          | None ↦ if lives_in (domain_records s past) d then choice_thread_by (domain_records s past) (thread_records past d) (service_records s past) (call_records past) (waiting_calls past) d a else None
         ])
     by (Some t) = ap (λ (b : Bool). if b then Some t else None) (performs_by_records past d t a)
     by None = ap2 (λ (b : Bool) (o : Option ℕ). if b then o else None) (lives_by_records s past d) (choice_thread_by_records s past d a)

@@ -1,23 +1,27 @@
 -- Who acts, and whom an entry ends: domains that are made and live.
-use Rattle.std.proofs.Common.{◌≡◌, ◌≢◌, refl, sym, ◌∙◌, ap, ℕ, ◌<◌, ◌≤◌, Bool, true, false, not, ◌&&◌, [], ◌∷◌, Option, Some, None, is_none, arith, ◌==◌, if◌then◌else◌, ◌⊎◌, inl, inr}
+use Rattle.std.proofs.Common.{◌≡◌, ◌≢◌, refl, sym, ◌∙◌, ap, ℕ, ◌+◌, ◌<◌, ◌≤◌, Bool, true, false, not, ◌&&◌, [], ◌∷◌, Option, Some, None, is_none, arith, ◌==◌, if◌then◌else◌, ◌⊎◌, inl, inr}
 use Rattle.std.specs.Prelude.{nat_le, nat_lt}
 use Rattle.std.proofs.lemmas.Bool.Decides.{nat_tests}
 use Rattle.jx_base.specs.declared.act.Act.{Act}
 use Rattle.jx_base.specs.declared.act.Act.TheVariants as act
 use Rattle.jx_base.specs.declared.act.Reply.{Reply}
+use Rattle.jx_base.specs.declared.act.Reply.TheVariants as reply
 use Rattle.jx_base.specs.declared.act.Refusal.{Refusal}
+use Rattle.jx_base.specs.declared.act.Refusal.TheVariants as refusal
+use Rattle.jx_base.specs.declared.ids.DomainId.{DomainId}
 use Rattle.jx_base.specs.declared.act.Reason.{Reason}
 use Rattle.jx_base.specs.declared.act.Reason.TheVariants as reason
 use Rattle.jx_base.specs.declared.act.Entry.{Entry}
 use Rattle.jx_base.specs.declared.program.System.{System}
 use Rattle.jx_base.specs.Basics.{not_below_zero}
-use Rattle.jx_base.specs.Histories.{Past, is_done}
-use Rattle.jx_model.specs.Domains.{is_live, is_made, is_birth, domains_made, end_reason, ended_by, ended_by_act, reason_for}
+use Rattle.program_model.specs.Limits.{domain_limit}
+use Rattle.jx_base.specs.Histories.{Past, is_done, count_where}
+use Rattle.jx_model.specs.Domains.{is_live, is_made, is_birth, makes_domain, domains_made, template_named, end_reason, ended_by, ended_by_act, reason_for}
 use Rattle.jx_model.specs.Permits.{acting_thread, zero_may, is_halt}
-use Rattle.jx_model.specs.Replies.{reply_to, killed, ◌refuses◌else◌}
+use Rattle.jx_model.specs.Replies.{reply_to, killed, new_domain, spawned, given_or, ◌refuses◌else◌}
 use Rattle.jx_model.specs.Legal.{IsNext, IsAdmittedPast}
 use Rattle.jx_base.proofs.BasicLaws.{both, eq_of}
-use Rattle.jx_base.proofs.NthEntries.{count_grows}
+use Rattle.jx_base.proofs.NthEntries.{count_grows, count_new, count_same}
 use Rattle.jx_model.proofs.Acting.{acting_cases, domain_cases, running_live}
 use Rattle.jx_model.proofs.Serving.{in_domain}
 
@@ -148,3 +152,40 @@ unmade_unended s (e ∷ past) d a h = by (ended_by e) refl (unmade_unended s pas
     by : (o : Option (ℕ × Reason)) → ended_by e ≡ o → end_reason past d ≡ None → (elim (reason_for o d) as (λ _. Option Reason) [ Some r ↦ Some r | None ↦ end_reason past d ]) ≡ None
     by None q again = again
     by (Some x) q again = ap (λ (b : Bool). elim (if b then Some x.1 else None) as (λ _. Option Reason) [ Some r ↦ Some r | None ↦ end_reason past d ]) (other x q) ∙ again
+
+-- ---- how many are made
+
+new_domain_fits : (b : Bool) (rest : Reply) (j : DomainId) (g : ℕ) → reply.Domain j g ≡ (b refuses refusal.TooMany else rest) → b ≡ false
+unfolding ◌refuses◌else◌
+new_domain_fits true rest j g h = cc
+new_domain_fits false rest j g h = refl
+
+-- an entry makes a domain only below the limit
+birth_fits : (s : System) (past : Past) (e : Entry) → IsNext s past e → is_birth e ≡ true → nat_le (domain_limit s) (domains_made past) ≡ false
+unfolding is_birth makes_domain reply_to new_domain spawned given_or
+birth_fits s past e n h = by e.act e.reply n.reply h
+  where
+    named : (o : Option ℕ) (j : DomainId) (g : ℕ) → reply.Domain j g ≡ given_or o refusal.Unknown (new_domain s past) → nat_le (domain_limit s) (domains_made past) ≡ false
+    named None j g q = cc
+    named (Some t) j g q = new_domain_fits _ _ j g q
+
+    by : (a : Act) (r : Reply) → r ≡ reply_to s past e.domain.0 a → makes_domain a r ≡ true → nat_le (domain_limit s) (domains_made past) ≡ false
+    by (act.Create t) (reply.Domain j g) q h = new_domain_fits _ _ j g q
+    by (act.Spawn name) (reply.Domain j g) q h = named (template_named s name) j g q
+    by _ _ q h = cc
+
+-- no more domains are made than the limit
+pub domains_fit : (s : System) (past : Past) → IsAdmittedPast s past → domains_made past ≤ domain_limit s
+unfolding count_where
+domains_fit s [] a = least (domain_limit s) refl
+  where
+    least : (n : ℕ) → domains_made [] ≡ 0 → domains_made [] ≤ n
+    least n q = omega (arith, q)
+domains_fit s (e ∷ past) a = by (is_birth e) refl (domains_fit s past a.1)
+  where
+    below : (x y : ℕ) → nat_le x y ≡ false → y < x
+    below x y q = grind (arith, nat_tests)
+
+    by : (b : Bool) → is_birth e ≡ b → domains_made past ≤ domain_limit s → domains_made (e ∷ past) ≤ domain_limit s
+    by false q again = omega (arith, count_same is_birth e past q, again)
+    by true q again = omega (arith, count_new is_birth e past q, below (domain_limit s) (domains_made past) (birth_fits s past e a.0 q))

@@ -1,5 +1,5 @@
 -- Which domains hold an object after an entry more.
-use Rattle.std.proofs.Common.{◌≡◌, ◌≢◌, refl, sym, ◌∙◌, ap, ℕ, suc, zero, ◌+◌, ◌<◌, ◌≤◌, Bool, true, false, not, cond, ◌&&◌, ◌||◌, List, [], ◌∷◌, ◌++◌, Option, Some, None, arith, ◌==◌, if◌then◌else◌, ◌⊎◌, inl, inr, filter, length-append, append-nil}
+use Rattle.std.proofs.Common.{◌≡◌, ◌≢◌, refl, sym, ◌∙◌, ap, ℕ, suc, zero, ◌+◌, ◌<◌, ◌≤◌, Bool, true, false, not, cond, ◌&&◌, ◌||◌, List, [], ◌∷◌, ◌++◌, Option, Some, None, map, arith, ◌==◌, if◌then◌else◌, ◌⊎◌, inl, inr, filter, length-append, append-nil}
 use Rattle.std.specs.Prelude.{nat_le}
 use Rattle.std.specs.List.{range_with_len}
 use Rattle.std.proofs.lemmas.Bool.Decides.{nat_tests}
@@ -7,16 +7,18 @@ use Rattle.jx_base.specs.declared.act.Reason.{Reason}
 use Rattle.jx_base.specs.declared.act.Entry.{Entry}
 use Rattle.jx_base.specs.declared.program.System.{System}
 use Rattle.jx_base.specs.Basics.{up_to, contains_number, is_number}
+use Rattle.program_model.specs.Limits.{domain_limit}
 use Rattle.jx_base.specs.Histories.{Past, is_done, is_own}
 use Rattle.jx_model.specs.Domains.{is_made, is_live, is_birth, domains_made, ended_by}
 use Rattle.jx_model.specs.Calls.{ends_domain}
 use Rattle.jx_model.specs.MemoryObjects.{objects_of, objects_made, new_parts, extents_made}
 use Rattle.jx_model.specs.Holding.{received_objects, is_drop_of, keeps_after, keeps_object, holds_object, holders}
+use Rattle.jx_model.specs.Tables.{holder_flags}
 use Rattle.jx_model.specs.Legal.{IsNext}
 use Rattle.jx_base.proofs.BasicLaws.{ap2, ap3, eq_of, and_true, and_false}
 use Rattle.jx_base.proofs.NthEntries.{count_new, count_same}
 use Rattle.jx_model.proofs.Refusals.{keeps_guarded}
-use Rattle.history_rows.proofs.Records.{not_that, is_that, same_or_not, filter_same, filter_more, filter_twice}
+use Rattle.history_rows.proofs.Records.{not_that, is_that, same_or_not, map_range, each_record, each_map}
 use Rattle.history_rows.proofs.Actors.{IsMade, made_is, is_made_at, made_stays, unmade_acts, actor_live}
 use Rattle.history_rows.proofs.Stages.{live_after}
 
@@ -115,61 +117,6 @@ newborn_holds s e past d m n h =
 
 -- ---- the holders of an object
 
--- the holders where the entry neither gives nor drops the object nor ends a domain
-pub holders_same : (s : System) (e : Entry) (past : Past) (m : ℕ) → IsNext s past e → m ≤ objects_made (e ∷ past) → ended_by e ≡ None → ((d : ℕ) → gives_object e d m ≡ false) → ((d : ℕ) → drops_object e d m ≡ false) →
-    holders (e ∷ past) m ≡ holders past m
-unfolding holders ends_domain
-holders_same s e past m n h z g r = by (is_birth e) refl
-  where
-    old : filter (λ d. holds_object (e ∷ past) d m) (up_to (domains_made past)) ≡ filter (λ d. holds_object past d m) (up_to (domains_made past))
-    old = filter_same (λ d. holds_object (e ∷ past) d m) (λ d. holds_object past d m) (domains_made past) (λ d l u.
-        holds_kept e past d m (record { low = l; high = u }) h (g d) (r d)
-        ∙ ap (λ (x : Option (ℕ × Reason)). holds_object past d m && not (ends_domain x (Some d))) z
-        ∙ and_true (holds_object past d m))
-
-    by : (b : Bool) → is_birth e ≡ b → filter (λ d. holds_object (e ∷ past) d m) (up_to (domains_made (e ∷ past))) ≡ filter (λ d. holds_object past d m) (up_to (domains_made past))
-    by false q = ap (λ (k : ℕ). filter (λ d. holds_object (e ∷ past) d m) (up_to k)) (count_same is_birth e past q) ∙ old
-    by true q =
-        ap (λ (k : ℕ). filter (λ d. holds_object (e ∷ past) d m) (up_to k)) (count_new is_birth e past q)
-        ∙ filter_more (λ d. holds_object (e ∷ past) d m) (domains_made past)
-        ∙ ap2 (λ (xs : List ℕ) (b : Bool). xs ++ cond b ((domains_made past + 1) ∷ []) []) old (newborn_holds s e past (domains_made past + 1) m n (omega arith))
-        ∙ append-nil _
-
--- the holders without the domain that an entry ends
-pub holders_after_end : (e : Entry) (past : Past) (k m : ℕ) (why : Reason) → is_birth e ≡ false → m ≤ objects_made (e ∷ past) → ended_by e ≡ Some (k, why) → ((d : ℕ) → gives_object e d m ≡ false) → ((d : ℕ) → drops_object e d m ≡ false) →
-    holders (e ∷ past) m ≡ filter (λ d. not (d == k)) (holders past m)
-unfolding holders ends_domain is_number
-holders_after_end e past k m why b h z g r =
-    ap (λ (n : ℕ). filter (λ d. holds_object (e ∷ past) d m) (up_to n)) (count_same is_birth e past b)
-    ∙ filter_same (λ d. holds_object (e ∷ past) d m) (λ d. holds_object past d m && not (d == k)) (domains_made past) (λ d l u.
-    holds_kept e past d m (record { low = l; high = u }) h (g d) (r d)
-    ∙ ap (λ (x : Option (ℕ × Reason)). holds_object past d m && not (ends_domain x (Some d))) z)
-    ∙ filter_twice (λ d. holds_object past d m) (λ d. not (d == k)) (up_to (domains_made past))
-
--- the holders without the domain that drops the object
-pub holders_after_drop : (e : Entry) (past : Past) (m : ℕ) → is_birth e ≡ false → m ≤ objects_made (e ∷ past) → ended_by e ≡ None → is_done e.reply ≡ true → is_drop_of m e.act ≡ true → received_objects e.act e.reply ≡ [] →
-    holders (e ∷ past) m ≡ filter (λ d. not (e.domain.0 == d)) (holders past m)
-unfolding holders ends_domain is_own contains_number holds_object
-holders_after_drop e past m b h z x y v =
-    ap (λ (n : ℕ). filter (λ d. holds_object (e ∷ past) d m) (up_to n)) (count_same is_birth e past b)
-    ∙ filter_same (λ d. holds_object (e ∷ past) d m) (λ d. holds_object past d m && not (e.domain.0 == d)) (domains_made past) (λ d l u.
-    holds_step e past d m (record { low = l; high = u }) h
-    ∙ ap2 (λ (w : Option (ℕ × Reason)) (xs : List ℕ). is_live past d && not (ends_domain w (Some d)) && (if (e.domain.0 == d) && contains_number xs m then true else if (e.domain.0 == d) && is_done e.reply && is_drop_of m e.act then false else keeps_object past d m)) z v
-    ∙ ap2 (λ (p q : Bool). is_live past d && true && (if (e.domain.0 == d) && false then true else if (e.domain.0 == d) && p && q then false else keeps_object past d m)) x y
-    ∙ turn (is_live past d) (e.domain.0 == d) (keeps_object past d m))
-    ∙ filter_twice (λ d. holds_object past d m) (λ d. not (e.domain.0 == d)) (up_to (domains_made past))
-  where
-    turn : (l o k : Bool) → (l && true && (if o && false then true else if o && true && true then false else k)) ≡ ((l && k) && not o)
-    turn true true true = refl
-    turn true true false = refl
-    turn true false true = refl
-    turn true false false = refl
-    turn false o k = refl
-
--- the numbers up to n that are in a list, with one number more
-abbrev pub with_number : ℕ → ℕ → List ℕ → List ℕ
-with_number n x xs = filter (λ k. (x == k) || contains_number xs k) (up_to n)
-
 -- what is in the numbers that pass
 pub contains_kept : (p : ℕ → Bool) (a n k : ℕ) → a ≤ k → k < a + n → contains_number (filter p (range_with_len a n)) k ≡ p k
 unfolding contains_number
@@ -201,27 +148,70 @@ pub holder_is : (past : Past) (d m : ℕ) → IsMade past d → contains_number 
 unfolding holders up_to
 holder_is past d m h = contains_kept (λ d. holds_object past d m) 1 (domains_made past) d h.low (omega (arith, h.high))
 
--- the holders with the domain that is given the object
-pub holders_after_gift : (s : System) (e : Entry) (past : Past) (m : ℕ) → IsNext s past e → is_birth e ≡ false → m ≤ objects_made (e ∷ past) → ended_by e ≡ None → contains_number (received_objects e.act e.reply) m ≡ true → ((d : ℕ) → drops_object e d m ≡ false) →
-    holders (e ∷ past) m ≡ with_number (domains_made past) e.domain.0 (holders past m)
-unfolding holders ends_domain is_own holds_object
-holders_after_gift s e past m n b h z g r =
-    ap (λ (k : ℕ). filter (λ d. holds_object (e ∷ past) d m) (up_to k)) (count_same is_birth e past b)
-    ∙ filter_same (λ d. holds_object (e ∷ past) d m) (λ d. (e.domain.0 == d) || contains_number (holders past m) d) (domains_made past) (λ d l u.
-    holds_step e past d m (record { low = l; high = u }) h
-    ∙ ap3 (λ (w : Option (ℕ × Reason)) (x y : Bool). is_live past d && not (ends_domain w (Some d)) && (if (e.domain.0 == d) && x then true else if y then false else keeps_object past d m)) z g (r d)
-    ∙ turn (is_live past d) (e.domain.0 == d) (keeps_object past d m) (own d l)
-    ∙ ap (λ (b : Bool). (e.domain.0 == d) || b) (sym (holder_is past d m (record { low = l; high = u }))))
-  where
-    own : (d : ℕ) → 1 ≤ d → (e.domain.0 == d) ≡ true → is_live past d ≡ true
-    own d l q = by (actor_live s past e n)
-      where
-        by : (e.domain.0 ≡ 0) ⊎ (is_live past e.domain.0 ≡ true) → is_live past d ≡ true
-        by (inl x) = absurd (omega (arith, x, l, eq_of e.domain.0 d q))
-        by (inr x) = ap (is_live past) (sym (eq_of e.domain.0 d q)) ∙ x
+-- ---- the flags of an object's holders
 
-    turn : (l o k : Bool) → (o ≡ true → l ≡ true) → (l && true && (if o && true then true else if false then false else k)) ≡ (o || (l && k))
-    turn true true k h = refl
-    turn true false k h = refl
-    turn false true k h = cc (h refl)
-    turn false false k h = refl
+pub at_most : (x y : ℕ) → nat_le x y ≡ true → x ≤ y
+at_most x y q = grind (arith, nat_tests)
+
+pub beyond : (x y : ℕ) → nat_le x y ≡ false → y < x
+beyond x y q = grind (arith, nat_tests)
+
+pub own_lives : (s : System) (past : Past) (e : Entry) (d : ℕ) → IsNext s past e → 1 ≤ d → (e.domain.0 == d) ≡ true → is_live past d ≡ true
+own_lives s past e d n l q = by (actor_live s past e n)
+  where
+    by : (e.domain.0 ≡ 0) ⊎ (is_live past e.domain.0 ≡ true) → is_live past d ≡ true
+    by (inl x) = absurd (omega (arith, x, l, eq_of e.domain.0 d q))
+    by (inr x) = ap (is_live past) (sym (eq_of e.domain.0 d q)) ∙ x
+
+-- whether a domain holds an object after an entry, from whether it did
+abbrev pub held_after : Entry → ℕ → ℕ → Bool → Bool
+held_after e m d held = not (ends_domain (ended_by e) (Some d)) && (gives_object e d m || (not (drops_object e d m) && held))
+
+-- whether any domain number holds an old object after an entry
+pub holds_every : (s : System) (e : Entry) (past : Past) (d m : ℕ) → IsNext s past e → 1 ≤ d → m ≤ objects_made past → holds_object (e ∷ past) d m ≡ held_after e m d (holds_object past d m)
+unfolding holds_object is_own
+holds_every s e past d m n l h = by (nat_le d (domains_made past)) refl
+  where
+    turn : (l n o g r w : Bool) → (o ≡ true → l ≡ true) → (l && n && (if o && g then true else if r then false else w)) ≡ (n && ((o && g) || (not r && (l && w))))
+    turn true true true true r w h = refl
+    turn true true true false true w h = refl
+    turn true true true false false w h = refl
+    turn true true false g true w h = refl
+    turn true true false g false w h = refl
+    turn true false o g r w h = refl
+    turn false n true g r w h = cc (h refl)
+    turn false true false g true w h = refl
+    turn false true false g false w h = refl
+    turn false false false g r w h = refl
+
+    nothing : (n g r l : Bool) → (n && ((false && g) || (not r && (l && false)))) ≡ false
+    nothing n g r l = ap (λ (b : Bool). n && (not r && b)) (and_false l) ∙ ap (λ (b : Bool). n && b) (and_false (not r)) ∙ and_false n
+
+    by : (b : Bool) → nat_le d (domains_made past) ≡ b → holds_object (e ∷ past) d m ≡ held_after e m d (holds_object past d m)
+    by true q =
+        holds_step e past d m (record { low = l; high = at_most d (domains_made past) q }) (omega (arith, h, objects_grow e past))
+        ∙ turn (is_live past d) (not (ends_domain (ended_by e) (Some d))) (e.domain.0 == d) (contains_number (received_objects e.act e.reply) m) (drops_object e d m) (keeps_object past d m) (own_lives s past e d n l)
+    by false q =
+        let u = beyond d (domains_made past) q in
+        newborn_holds s e past d m n u
+        ∙ sym (ap2 (λ (o k : Bool). not (ends_domain (ended_by e) (Some d)) && ((o && contains_number (received_objects e.act e.reply) m) || (not (drops_object e d m) && (is_live past d && k)))) (unmade_acts s past e d n u) (unmade_keeps past d m u)
+        ∙ nothing (not (ends_domain (ended_by e) (Some d))) (contains_number (received_objects e.act e.reply) m) (drops_object e d m) (is_live past d))
+
+-- each flag after an entry comes from that flag alone
+pub flags_every : (s : System) (e : Entry) (past : Past) (m : ℕ) → IsNext s past e → m ≤ objects_made past → holder_flags s (e ∷ past) m ≡ each_record (held_after e m) (holder_flags s past m)
+unfolding up_to
+flags_every s e past m n h =
+    map_range (λ d. holds_object (e ∷ past) d m) (λ d. held_after e m d (holds_object past d m)) 1 (domain_limit s) (λ d l u. holds_every s e past d m n l h)
+    ∙ sym (each_map (held_after e m) (λ d. holds_object past d m) 1 (domain_limit s))
+
+-- they stay where the entry neither gives nor drops the object nor ends a domain
+pub flags_same : (s : System) (e : Entry) (past : Past) (m : ℕ) → IsNext s past e → m ≤ objects_made past → ended_by e ≡ None → ((d : ℕ) → gives_object e d m ≡ false) → ((d : ℕ) → drops_object e d m ≡ false) →
+    holder_flags s (e ∷ past) m ≡ holder_flags s past m
+unfolding up_to ends_domain
+flags_same s e past m n h z g r =
+    map_range (λ d. holds_object (e ∷ past) d m) (λ d. holds_object past d m) 1 (domain_limit s) (λ d l u.
+    holds_every s e past d m n l h ∙ ap3 (λ (x : Option (ℕ × Reason)) (p q : Bool). not (ends_domain x (Some d)) && (p || (not q && holds_object past d m))) z (g d) (r d))
+
+-- the flags of one domain alone
+abbrev pub only_flag : System → ℕ → List Bool
+only_flag s d = map (λ k. d == k) (up_to (domain_limit s))

@@ -35,7 +35,7 @@ some_kept p a (suc n) h = by (p a) refl h (some_kept p (a + 1) n)
     by true q h again = (a, omega arith, omega arith, q)
     by false q h again = let r = again h in (r.0, omega (arith, r.1), omega (arith, r.2), r.3)
 
-some_number : (n : ℕ) → 1 ≤ n → nat_lt 0 n ≡ true
+pub some_number : (n : ℕ) → 1 ≤ n → nat_lt 0 n ≡ true
 some_number n h = grind (arith, nat_tests)
 
 is_some_number : (n : ℕ) → nat_lt 0 n ≡ true → 1 ≤ n

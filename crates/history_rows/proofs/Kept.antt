@@ -25,7 +25,8 @@ use Rattle.history_rows.proofs.ThreadTable.{thread_table}
 use Rattle.history_rows.proofs.CallActs.{TouchesNoCall, calls_untouched, waiting_untouched}
 use Rattle.history_rows.proofs.Holders.{gives_object, drops_object}
 use Rattle.history_rows.proofs.ObjectRecords.{objects_same, object_record_same}
-use Rattle.history_rows.proofs.ServiceRecords.{services_kept, portal_holders_same, name_same}
+use Rattle.history_rows.proofs.ServiceRecords.{services_kept, portals_same, name_same}
+use Rattle.jx_model.proofs.Exported.{exported_stays}
 use Rattle.history_rows.proofs.ByteRecords.{writes}
 use Rattle.history_rows.proofs.ExtentRecords.{extents_untouched, granules_untouched}
 
@@ -82,8 +83,8 @@ module _ (s : System) (k : Kept) (e : Entry) (h : StandsFor s k) (n : IsNext s k
   keeps_domains l = h.domains ∙ sym (domains_same s k.past e l.birth l.ends)
 
   -- the services
-  pub keeps_services : LeavesServices e → ended_by e ≡ None → k.services ≡ service_records (e ∷ k.past)
-  keeps_services v z = h.services ∙ sym (services_kept e k.past v.export (λ j l u. portal_holders_same s e k.past j admitted z (λ d. no_portal e v d j)))
+  pub keeps_services : LeavesServices e → ended_by e ≡ None → k.services ≡ service_records s (e ∷ k.past)
+  keeps_services v z = h.services ∙ sym (services_kept s e k.past v.export (λ j l u. portals_same s e k.past j n (exported_stays e k.past j (record { low = l; high = u })) z (λ d. no_portal e v d j)))
 
   -- the names
   pub keeps_names : ((name : List ℕ) → bound_by_act name e.act e.reply ≡ None) → ended_by e ≡ None → (name : List ℕ) → named_service k.names name ≡ bound_service (e ∷ k.past) name
@@ -103,9 +104,9 @@ module _ (s : System) (k : Kept) (e : Entry) (h : StandsFor s k) (n : IsNext s k
   keeps_parts p = h.parts ∙ sym (ap (λ (xs : List Part). objects_of k.past ++ xs) p ∙ append-nil _)
 
   -- the objects
-  pub keeps_objects : LeavesObjects k.past e → TouchesNoCall e → k.objects ≡ object_records (e ∷ k.past)
+  pub keeps_objects : LeavesObjects k.past e → TouchesNoCall e → k.objects ≡ object_records s (e ∷ k.past)
   keeps_objects o c =
-      h.objects ∙ sym (objects_same e k.past o.parts (λ m l u. object_record_same s e k.past m n u o.ending c.ends (λ d. no_gift k.past e o d m) (λ d. no_drop e o.drop d m) (calls_untouched s e k.past h.admitted c)))
+      h.objects ∙ sym (objects_same s e k.past o.parts (λ m l u. object_record_same s e k.past m n u o.ending c.ends (λ d. no_gift k.past e o d m) (λ d. no_drop e o.drop d m) (calls_untouched s e k.past h.admitted c)))
 
   -- the extents
   pub keeps_extents : is_allocation e ≡ false → ended_by e ≡ None → ((m : ℕ) → (is_done e.reply && is_drop_of m e.act) ≡ false) → (is_done e.reply && writes e.act) ≡ false → k.extents ≡ extent_records (e ∷ k.past)

@@ -33,11 +33,11 @@ binds_same names e past h b x = h x ∙ sym (ap (λ (o : Option ℕ). elim o as 
 
 -- the list and the records say what a name is bound to
 pub bound_by_binds : (s : System) (names : List (List ℕ × ℕ)) (past : Past) (name : List ℕ) → HasLastBinds names past →
-    bound_service past name ≡ option_and_then (λ k. if passes (lives_in (domain_records s past)) (owner_in (service_records past) k) then Some k else None) (named_service names name)
+    bound_service past name ≡ option_and_then (λ k. if passes (lives_in (domain_records s past)) (owner_in (service_records s past) k) then Some k else None) (named_service names name)
 unfolding bound_service
 bound_by_binds s names past name h =
-    by (last_bound past name) ∙ ap (λ (o : Option ℕ). option_and_then (λ k. if passes (lives_in (domain_records s past)) (owner_in (service_records past) k) then Some k else None) o) (sym (h name))
+    by (last_bound past name) ∙ ap (λ (o : Option ℕ). option_and_then (λ k. if passes (lives_in (domain_records s past)) (owner_in (service_records s past) k) then Some k else None) o) (sym (h name))
   where
-    by : (o : Option ℕ) → option_and_then (λ k. if has_live_owner past k then Some k else None) o ≡ option_and_then (λ k. if passes (lives_in (domain_records s past)) (owner_in (service_records past) k) then Some k else None) o
+    by : (o : Option ℕ) → option_and_then (λ k. if has_live_owner past k then Some k else None) o ≡ option_and_then (λ k. if passes (lives_in (domain_records s past)) (owner_in (service_records s past) k) then Some k else None) o
     by None = refl
     by (Some k) = ap (λ (b : Bool). if b then Some k else None) (live_owner_by_records s past k)

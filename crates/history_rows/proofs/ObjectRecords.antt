@@ -1,5 +1,6 @@
 -- The records of the memory objects after an entry more.
 use Rattle.std.proofs.Common.{◌≡◌, ◌≢◌, refl, sym, ◌∙◌, ap, ℕ, suc, zero, ◌+◌, ◌<◌, ◌≤◌, Bool, true, false, not, cond, ◌&&◌, ◌||◌, List, [], ◌∷◌, ◌++◌, length, map, replicate, Option, Some, None, arith, ◌==◌, if◌then◌else◌, ◌⊎◌, inl, inr, filter, length-append, append-nil}
+use Rattle.std.specs.Prelude.{nat_le}
 use Rattle.std.specs.List.{range_with_len}
 use Rattle.std.proofs.lemmas.List.{map-append}
 use Rattle.jx_base.specs.declared.act.Act.{Act}
@@ -10,20 +11,21 @@ use Rattle.jx_base.specs.declared.act.Reason.{Reason}
 use Rattle.jx_base.specs.declared.act.Entry.{Entry}
 use Rattle.jx_base.specs.declared.program.System.{System}
 use Rattle.jx_base.specs.Basics.{up_to, contains_number}
+use Rattle.program_model.specs.Limits.{domain_limit}
 use Rattle.jx_base.specs.Histories.{Past, is_done, is_own}
 use Rattle.jx_model.specs.Domains.{is_live, is_birth, domains_made, ended_by}
 use Rattle.jx_model.specs.Calls.{ends_domain}
 use Rattle.jx_model.specs.MemoryObjects.{Part, objects_of, objects_made, new_parts, extents_made, is_valid, ended_object, ends_one_of, lineage_of}
-use Rattle.jx_model.specs.Holding.{received_objects, holds_object, holders}
+use Rattle.jx_model.specs.Holding.{received_objects, holds_object}
 use Rattle.jx_model.specs.Growth.{new_object_numbers}
 use Rattle.jx_model.specs.Tables.{ObjectRecord, object_record, object_records, call_records}
 use Rattle.jx_model.specs.Legal.{IsNext, IsAdmittedPast}
 use Rattle.jx_base.proofs.BasicLaws.{ap2, ap3, up_to_append, eq_of, and_false}
-use Rattle.history_rows.proofs.Records.{records_same, filter_range, filter_none, not_that, is_that, same_or_not}
+use Rattle.history_rows.proofs.Records.{records_same, map_range, not_that, is_that, same_or_not}
 use Rattle.jx_base.proofs.NthEntries.{count_same}
-use Rattle.history_rows.proofs.Actors.{IsMade, live_made}
+use Rattle.history_rows.proofs.Actors.{unmade_acts}
 use Rattle.history_rows.proofs.Given.{new_numbers}
-use Rattle.history_rows.proofs.Holders.{holds_step, keeps_none, holders_same, gives_object, drops_object, objects_grow}
+use Rattle.history_rows.proofs.Holders.{holds_step, keeps_none, newborn_holds, flags_same, only_flag, own_lives, at_most, beyond, gives_object, drops_object, objects_grow}
 use Rattle.history_rows.proofs.Parts.{valid_new, valid_old, valid_same}
 use Rattle.history_rows.proofs.Riding.{riding_new, riding_same}
 
@@ -34,27 +36,16 @@ abbrev pub parts_made : Entry → Past → ℕ
 parts_made e past = length (new_parts (objects_of past) (extents_made past + 1) e.act e.reply)
 
 -- the records of the old objects, and behind them those of the new ones
-pub objects_split : (e : Entry) (past : Past) → object_records (e ∷ past) ≡ map (object_record (e ∷ past)) (up_to (objects_made past)) ++ map (object_record (e ∷ past)) (range_with_len (objects_made past + 1) (parts_made e past))
+pub objects_split : (s : System) (e : Entry) (past : Past) → object_records s (e ∷ past) ≡ map (object_record s (e ∷ past)) (up_to (objects_made past)) ++ map (object_record s (e ∷ past)) (range_with_len (objects_made past + 1) (parts_made e past))
 unfolding object_records objects_made objects_of
-objects_split e past =
-    ap (λ (n : ℕ). map (object_record (e ∷ past)) (up_to n)) (length-append (objects_of past) (new_parts (objects_of past) (extents_made past + 1) e.act e.reply))
-    ∙ ap (map (object_record (e ∷ past))) (up_to_append (objects_made past) (parts_made e past))
-    ∙ map-append (object_record (e ∷ past)) (up_to (objects_made past)) _
+objects_split s e past =
+    ap (λ (n : ℕ). map (object_record s (e ∷ past)) (up_to n)) (length-append (objects_of past) (new_parts (objects_of past) (extents_made past + 1) e.act e.reply))
+    ∙ ap (map (object_record s (e ∷ past))) (up_to_append (objects_made past) (parts_made e past))
+    ∙ map-append (object_record s (e ∷ past)) (up_to (objects_made past)) _
 
 -- the record of an object that domain d just made
-abbrev pub new_object_record : ℕ → ObjectRecord
-new_object_record d = record { valid = true; holders = d ∷ []; riding = 0 }
-
--- the one number of a range that is that number
-pub filter_single : (d a n : ℕ) → a ≤ d → d < a + n → filter (λ x. d == x) (range_with_len a n) ≡ d ∷ []
-filter_single d a zero l u = absurd (omega (arith, l, u))
-filter_single d a (suc n) l u = by (same_or_not a d) (filter_single d (a + 1) n)
-  where
-    by : (a ≡ d) ⊎ (a ≢ d) → (a + 1 ≤ d → d < a + 1 + n → filter (λ x. d == x) (range_with_len (a + 1) n) ≡ d ∷ []) → filter (λ x. d == x) (range_with_len a (suc n)) ≡ d ∷ []
-    by (inl q) again =
-        ap2 (λ (b : Bool) (xs : List ℕ). cond b (a ∷ xs) xs) (is_that d a (sym q)) (filter_none (λ x. d == x) (a + 1) n (λ k x y. not_that d k (λ z. omega (arith, z, q, x))))
-        ∙ ap (λ (x : ℕ). x ∷ []) q
-    by (inr z) again = ap (λ (b : Bool). cond b (a ∷ filter (λ x. d == x) (range_with_len (a + 1) n)) (filter (λ x. d == x) (range_with_len (a + 1) n))) (not_that d a z) ∙ again (omega (arith, l, z)) (omega (arith, u))
+abbrev pub new_object_record : System → ℕ → ObjectRecord
+new_object_record s d = record { valid = true; holders = only_flag s d; riding = 0 }
 
 -- a number of a range is in it
 pub contains_range : (a n m : ℕ) → a ≤ m → m < a + n → contains_number (range_with_len a n) m ≡ true
@@ -80,20 +71,15 @@ makes_gives (act.Revoke k) (reply.Object x) m h = h
 makes_gives _ _ m h = cc
 
 -- the record of a new object
-pub object_record_new : (s : System) (e : Entry) (past : Past) (m : ℕ) → IsAdmittedPast s (e ∷ past) → is_birth e ≡ false → ended_by e ≡ None → is_live past e.domain.0 ≡ true → objects_made past < m → m ≤ objects_made past + parts_made e past →
-    object_record (e ∷ past) m ≡ new_object_record e.domain.0
-unfolding object_record holders ends_domain is_own up_to objects_made objects_of
-object_record_new s e past m a b z v l u =
-    ap3 (λ (x : Bool) (hs : List ℕ) (n : ℕ). let item : ObjectRecord = record { valid = x; holders = hs; riding = n } in item)
+pub object_record_new : (s : System) (e : Entry) (past : Past) (m : ℕ) → IsAdmittedPast s (e ∷ past) → ended_by e ≡ None → objects_made past < m → m ≤ objects_made past + parts_made e past →
+    object_record s (e ∷ past) m ≡ new_object_record s e.domain.0
+unfolding object_record ends_domain is_own up_to objects_made objects_of
+object_record_new s e past m a z l u =
+    ap3 (λ (x : Bool) (hs : List Bool) (n : ℕ). let item : ObjectRecord = record { valid = x; holders = hs; riding = n } in item)
     (valid_new e past m l made)
-    (ap (λ (n : ℕ). filter (λ d. holds_object (e ∷ past) d m) (range_with_len 1 n)) (count_same is_birth e past b)
-    ∙ filter_range (λ d. holds_object (e ∷ past) d m) (λ d. e.domain.0 == d) 1 (domains_made past) (λ d x y. one d x (omega (arith, y)))
-    ∙ filter_single e.domain.0 1 (domains_made past) actor.low (omega (arith, actor.high)))
+    (map_range (λ d. holds_object (e ∷ past) d m) (λ d. e.domain.0 == d) 1 (domain_limit s) (λ d x y. one d x (nat_le d (domains_made past)) refl))
     (riding_new s e past m a l)
   where
-    actor : IsMade past e.domain.0
-    actor = live_made past e.domain.0 v
-
     made : m ≤ objects_made (e ∷ past)
     made = omega (arith, u, length-append (objects_of past) (new_parts (objects_of past) (extents_made past + 1) e.act e.reply))
 
@@ -107,51 +93,50 @@ object_record_new s e past m a b z v l u =
     turn false true false h = refl
     turn false false r h = refl
 
-    lives : (d : ℕ) → (e.domain.0 == d) ≡ true → is_live past d ≡ true
-    lives d q = ap (is_live past) (sym (eq_of e.domain.0 d q)) ∙ v
-
-    one : (d : ℕ) → 1 ≤ d → d ≤ domains_made past → holds_object (e ∷ past) d m ≡ (e.domain.0 == d)
-    one d x y =
-        holds_step e past d m (record { low = x; high = y }) made
+    one : (d : ℕ) → 1 ≤ d → (b : Bool) → nat_le d (domains_made past) ≡ b → holds_object (e ∷ past) d m ≡ (e.domain.0 == d)
+    one d x true y =
+        holds_step e past d m (record { low = x; high = at_most d (domains_made past) y }) made
         ∙ ap3 (λ (w : Option (ℕ × Reason)) (c k : Bool). is_live past d && not (ends_domain w (Some d)) && (if (e.domain.0 == d) && c then true else if drops_object e d m then false else k)) z given (keeps_none past d m l)
-        ∙ turn (e.domain.0 == d) (is_live past d) (drops_object e d m) (lives d)
+        ∙ turn (e.domain.0 == d) (is_live past d) (drops_object e d m) (own_lives s past e d a.0 x)
+    one d x false y =
+        let u = beyond d (domains_made past) y in newborn_holds s e past d m a.0 u ∙ sym (unmade_acts s past e d a.0 u)
 
 -- the records of all new objects
-pub objects_new : (s : System) (e : Entry) (past : Past) → IsAdmittedPast s (e ∷ past) → is_birth e ≡ false → ended_by e ≡ None → is_live past e.domain.0 ≡ true →
-    map (object_record (e ∷ past)) (range_with_len (objects_made past + 1) (parts_made e past)) ≡ replicate (parts_made e past) (new_object_record e.domain.0)
-objects_new s e past a b z v =
-    all (objects_made past + 1) (parts_made e past) (λ m l u. object_record_new s e past m a b z v (omega (arith, l)) (omega (arith, u)))
+pub objects_new : (s : System) (e : Entry) (past : Past) → IsAdmittedPast s (e ∷ past) → ended_by e ≡ None →
+    map (object_record s (e ∷ past)) (range_with_len (objects_made past + 1) (parts_made e past)) ≡ replicate (parts_made e past) (new_object_record s e.domain.0)
+objects_new s e past a z =
+    all (objects_made past + 1) (parts_made e past) (λ m l u. object_record_new s e past m a z (omega (arith, l)) (omega (arith, u)))
   where
-    all : (x n : ℕ) → ((m : ℕ) → x ≤ m → m < x + n → object_record (e ∷ past) m ≡ new_object_record e.domain.0) → map (object_record (e ∷ past)) (range_with_len x n) ≡ replicate n (new_object_record e.domain.0)
+    all : (x n : ℕ) → ((m : ℕ) → x ≤ m → m < x + n → object_record s (e ∷ past) m ≡ new_object_record s e.domain.0) → map (object_record s (e ∷ past)) (range_with_len x n) ≡ replicate n (new_object_record s e.domain.0)
     all x zero h = refl
     all x (suc n) h = ap2 (λ (y : ObjectRecord) (ys : List ObjectRecord). y ∷ ys) (h x (omega arith) (omega arith)) (all (x + 1) n (λ m l u. h m (omega (arith, l)) (omega (arith, u))))
 
 -- an entry that makes objects adds their records behind those of the old ones, which stay or change each by itself
-pub objects_after : (s : System) (e : Entry) (past : Past) → IsAdmittedPast s (e ∷ past) → is_birth e ≡ false → ended_by e ≡ None → is_live past e.domain.0 ≡ true →
-    object_records (e ∷ past) ≡ map (object_record (e ∷ past)) (up_to (objects_made past)) ++ replicate (parts_made e past) (new_object_record e.domain.0)
-objects_after s e past a b z v = objects_split e past ∙ ap (λ (xs : List ObjectRecord). map (object_record (e ∷ past)) (up_to (objects_made past)) ++ xs) (objects_new s e past a b z v)
+pub objects_after : (s : System) (e : Entry) (past : Past) → IsAdmittedPast s (e ∷ past) → ended_by e ≡ None →
+    object_records s (e ∷ past) ≡ map (object_record s (e ∷ past)) (up_to (objects_made past)) ++ replicate (parts_made e past) (new_object_record s e.domain.0)
+objects_after s e past a z = objects_split s e past ∙ ap (λ (xs : List ObjectRecord). map (object_record s (e ∷ past)) (up_to (objects_made past)) ++ xs) (objects_new s e past a z)
 
 -- an entry that makes none
-pub objects_made_none : (e : Entry) (past : Past) → new_parts (objects_of past) (extents_made past + 1) e.act e.reply ≡ [] → object_records (e ∷ past) ≡ map (object_record (e ∷ past)) (up_to (objects_made past))
-objects_made_none e past h =
-    objects_split e past
-    ∙ ap (λ (ps : List Part). map (object_record (e ∷ past)) (up_to (objects_made past)) ++ map (object_record (e ∷ past)) (range_with_len (objects_made past + 1) (length ps))) h
+pub objects_made_none : (s : System) (e : Entry) (past : Past) → new_parts (objects_of past) (extents_made past + 1) e.act e.reply ≡ [] → object_records s (e ∷ past) ≡ map (object_record s (e ∷ past)) (up_to (objects_made past))
+objects_made_none s e past h =
+    objects_split s e past
+    ∙ ap (λ (ps : List Part). map (object_record s (e ∷ past)) (up_to (objects_made past)) ++ map (object_record s (e ∷ past)) (range_with_len (objects_made past + 1) (length ps))) h
     ∙ append-nil _
 
 -- ---- the record of an old object
 
 -- an entry that hands over and drops none, ends no domain and no object, and leaves what calls carry, leaves an object's record
 pub object_record_same : (s : System) (e : Entry) (past : Past) (m : ℕ) → IsNext s past e → m ≤ objects_made past → (is_done e.reply ≡ false) ⊎ (ended_object e.act ≡ None) → ended_by e ≡ None →
-    ((d : ℕ) → gives_object e d m ≡ false) → ((d : ℕ) → drops_object e d m ≡ false) → call_records (e ∷ past) ≡ call_records past → object_record (e ∷ past) m ≡ object_record past m
+    ((d : ℕ) → gives_object e d m ≡ false) → ((d : ℕ) → drops_object e d m ≡ false) → call_records (e ∷ past) ≡ call_records past → object_record s (e ∷ past) m ≡ object_record s past m
 unfolding object_record
 object_record_same s e past m n l v z g r c =
-    ap3 (λ (x : Bool) (hs : List ℕ) (k : ℕ). let item : ObjectRecord = record { valid = x; holders = hs; riding = k } in item)
-    (valid_same e past m l v) (holders_same s e past m n (omega (arith, l, objects_grow e past)) z g r) (riding_same e past m c)
+    ap3 (λ (x : Bool) (hs : List Bool) (k : ℕ). let item : ObjectRecord = record { valid = x; holders = hs; riding = k } in item)
+    (valid_same e past m l v) (flags_same s e past m n l z g r) (riding_same e past m c)
 
 -- an entry that makes no objects and leaves each record leaves all
-pub objects_same : (e : Entry) (past : Past) → new_parts (objects_of past) (extents_made past + 1) e.act e.reply ≡ [] → ((m : ℕ) → 1 ≤ m → m ≤ objects_made past → object_record (e ∷ past) m ≡ object_record past m) → object_records (e ∷ past) ≡ object_records past
+pub objects_same : (s : System) (e : Entry) (past : Past) → new_parts (objects_of past) (extents_made past + 1) e.act e.reply ≡ [] → ((m : ℕ) → 1 ≤ m → m ≤ objects_made past → object_record s (e ∷ past) m ≡ object_record s past m) → object_records s (e ∷ past) ≡ object_records s past
 unfolding object_records
-objects_same e past h f = objects_made_none e past h ∙ records_same (object_record (e ∷ past)) (object_record past) (objects_made past) f
+objects_same s e past h f = objects_made_none s e past h ∙ records_same (object_record s (e ∷ past)) (object_record s past) (objects_made past) f
 
 -- ---- the records of old objects where new ones are made
 
@@ -162,11 +147,11 @@ above_range a (suc n) m l = ap2 (λ (x y : Bool). x || y) (not_that a m (λ z. o
 
 -- an entry that hands over only what it makes leaves who holds an old object, and who carries it where the calls' records stay
 pub object_record_beside : (s : System) (e : Entry) (past : Past) (m : ℕ) → IsAdmittedPast s (e ∷ past) → m ≤ objects_made past → received_objects e.act e.reply ≡ new_object_numbers e.act e.reply → ended_by e ≡ None →
-    ((d : ℕ) → drops_object e d m ≡ false) → call_records (e ∷ past) ≡ call_records past → object_record (e ∷ past) m ≡ record (object_record past m) { valid = is_valid past m && not (ends_one_of (lineage_of (objects_of past) m) e) }
+    ((d : ℕ) → drops_object e d m ≡ false) → call_records (e ∷ past) ≡ call_records past → object_record s (e ∷ past) m ≡ record (object_record s past m) { valid = is_valid past m && not (ends_one_of (lineage_of (objects_of past) m) e) }
 unfolding object_record
 object_record_beside s e past m a l q z r c =
-    ap3 (λ (x : Bool) (hs : List ℕ) (k : ℕ). let item : ObjectRecord = record { valid = x; holders = hs; riding = k } in item)
-    (valid_old e past m l) (holders_same s e past m a.0 (omega (arith, l, objects_grow e past)) z none r) (riding_same e past m c)
+    ap3 (λ (x : Bool) (hs : List Bool) (k : ℕ). let item : ObjectRecord = record { valid = x; holders = hs; riding = k } in item)
+    (valid_old e past m l) (flags_same s e past m a.0 l z none r) (riding_same e past m c)
   where
     none : (d : ℕ) → gives_object e d m ≡ false
     none d =

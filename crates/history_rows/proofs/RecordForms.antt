@@ -11,6 +11,7 @@ use Rattle.jx_model.specs.Portals.{owner_of}
 use Rattle.jx_model.specs.Calls.{ends_domain, service_of_call}
 use Rattle.jx_model.specs.Granules.{Run, run_if, heap_run, extent_run}
 use Rattle.jx_model.specs.Tables.{CallRecord, call_records, service_records, extent_record, object_records}
+use Rattle.jx_model.specs.Legal.{IsAdmittedPast}
 use Rattle.jx_base.proofs.BasicLaws.{ap2, and_true}
 use Rattle.history_rows.proofs.Records.{same_or_not, is_that, not_that}
 use Rattle.history_rows.proofs.Actors.{live_made}
@@ -26,18 +27,18 @@ use Rattle.std.specs.Option.{option_and_then, option_map, unwrap_or}
 -- ---- services of a domain
 
 -- the records say whether a domain owns a service
-pub owned_by_record : (past : Past) (d k : ℕ) → owned_by past d k ≡ is_number (owner_in (service_records past) k) d
-owned_by_record past d k = ap (λ (o : Option ℕ). is_number o d) (owner_by_records past k)
+pub owned_by_record : (s : System) (past : Past) (d k : ℕ) → owned_by past d k ≡ is_number (owner_in (service_records s past) k) d
+owned_by_record s past d k = ap (λ (o : Option ℕ). is_number o d) (owner_by_records s past k)
 
 map_tests : {A B : Type 0} (f g : A → B) (xs : List A) → ((x : A) → f x ≡ g x) → map f xs ≡ map g xs
 map_tests f g [] h = refl
 map_tests {B = B} f g (x ∷ xs) h = ap2 (λ (y : B) (ys : List B). y ∷ ys) (h x) (map_tests f g xs h)
 
 -- the calls' records after the end of a domain, by the services' records
-pub ended_calls_by_records : (past : Past) (d : ℕ) (calls : List CallRecord) → map (ended_call (owned_by past d) d) calls ≡ map (ended_call (λ k. is_number (owner_in (service_records past) k) d) d) calls
-ended_calls_by_records past d calls = map_tests (ended_call (owned_by past d) d) (ended_call (λ k. is_number (owner_in (service_records past) k) d) d) calls (λ item. ended item (owned_by_record past d item.service))
+pub ended_calls_by_records : (s : System) (past : Past) (d : ℕ) (calls : List CallRecord) → map (ended_call (owned_by past d) d) calls ≡ map (ended_call (λ k. is_number (owner_in (service_records s past) k) d) d) calls
+ended_calls_by_records s past d calls = map_tests (ended_call (owned_by past d) d) (ended_call (λ k. is_number (owner_in (service_records s past) k) d) d) calls (λ item. ended item (owned_by_record s past d item.service))
   where
-    ended : (item : CallRecord) → owned_by past d item.service ≡ is_number (owner_in (service_records past) item.service) d → ended_call (owned_by past d) d item ≡ ended_call (λ k. is_number (owner_in (service_records past) k) d) d item
+    ended : (item : CallRecord) → owned_by past d item.service ≡ is_number (owner_in (service_records s past) item.service) d → ended_call (owned_by past d) d item ≡ ended_call (λ k. is_number (owner_in (service_records s past) k) d) d item
     ended item q = ap (λ (b : Bool). ended_call (λ k. b) d item) q
 
 zero_owner : (past : Past) (d : ℕ) → owned_by past d 0 ≡ false
@@ -45,16 +46,16 @@ unfolding owner_of is_number
 zero_owner past d = ap (λ (o : Option Entry). is_number (option_map (λ e. e.domain.0) o) d) (no_export past 0 (inl refl))
 
 -- the waiting calls after the end of a domain, by the records
-pub ended_waiting_by_records : (past : Past) (d : ℕ) (waiting : List ℕ) →
-    filter (λ c. not (owned_by past d (unwrap_or (service_of_call past c) 0))) waiting ≡ filter (λ c. not (is_number (option_and_then (owner_in (service_records past)) (service_in (call_records past) c)) d)) waiting
+pub ended_waiting_by_records : (s : System) (past : Past) (d : ℕ) (waiting : List ℕ) →
+    filter (λ c. not (owned_by past d (unwrap_or (service_of_call past c) 0))) waiting ≡ filter (λ c. not (is_number (option_and_then (owner_in (service_records s past)) (service_in (call_records past) c)) d)) waiting
 unfolding is_number
-ended_waiting_by_records past d waiting =
-    filter_tests (λ c. not (owned_by past d (unwrap_or (service_of_call past c) 0))) (λ c. not (is_number (option_and_then (owner_in (service_records past)) (service_in (call_records past) c)) d)) waiting (λ c.
-    ap not (by (service_of_call past c) ∙ ap (λ (o : Option ℕ). is_number (option_and_then (owner_in (service_records past)) o) d) (service_by_records past c)))
+ended_waiting_by_records s past d waiting =
+    filter_tests (λ c. not (owned_by past d (unwrap_or (service_of_call past c) 0))) (λ c. not (is_number (option_and_then (owner_in (service_records s past)) (service_in (call_records past) c)) d)) waiting (λ c.
+    ap not (by (service_of_call past c) ∙ ap (λ (o : Option ℕ). is_number (option_and_then (owner_in (service_records s past)) o) d) (service_by_records past c)))
   where
-    by : (o : Option ℕ) → owned_by past d (unwrap_or o 0) ≡ is_number (option_and_then (owner_in (service_records past)) o) d
+    by : (o : Option ℕ) → owned_by past d (unwrap_or o 0) ≡ is_number (option_and_then (owner_in (service_records s past)) o) d
     by None = zero_owner past d
-    by (Some k) = owned_by_record past d k
+    by (Some k) = owned_by_record s past d k
 
 -- ---- freed heaps
 
@@ -117,10 +118,10 @@ map_runs f g a zero h = refl
 map_runs f g a (suc n) h = ap2 (λ (o : Option Run) (rs : List Run). cons_option o rs) (h a (omega arith) (omega arith)) (map_runs f g (a + 1) n (λ x l u. h x (omega (arith, l)) (omega (arith, u))))
 
 -- the runs of the extents that an entry frees, by the extents' records before it and the parts and the objects' records after it
-pub extents_freed_by_records : (e : Entry) (past : Past) →
+pub extents_freed_by_records : (s : System) (e : Entry) (past : Past) → IsAdmittedPast s (e ∷ past) →
     filter_map (run_if (is_extent_freed e past) (extent_run past)) (up_to (extents_made past))
-    ≡ filter_map (λ x. if is_some (extent_record past x).bytes && not (in_use_by (objects_of (e ∷ past)) (object_records (e ∷ past)) x) then Some (extent_record past x).run else None) (up_to (extents_made past))
+    ≡ filter_map (λ x. if is_some (extent_record past x).bytes && not (in_use_by (objects_of (e ∷ past)) (object_records s (e ∷ past)) x) then Some (extent_record past x).run else None) (up_to (extents_made past))
 unfolding run_if up_to extent_record
-extents_freed_by_records e past =
-    map_runs (run_if (is_extent_freed e past) (extent_run past)) (λ x. if is_some (extent_record past x).bytes && not (in_use_by (objects_of (e ∷ past)) (object_records (e ∷ past)) x) then Some (extent_record past x).run else None) 1 (extents_made past)
-    (λ x l u. ap2 (λ (b c : Bool). if b && not c then Some (extent_run past x) else None) (in_use_by_record past x) (in_use_by_records (e ∷ past) x))
+extents_freed_by_records s e past a =
+    map_runs (run_if (is_extent_freed e past) (extent_run past)) (λ x. if is_some (extent_record past x).bytes && not (in_use_by (objects_of (e ∷ past)) (object_records s (e ∷ past)) x) then Some (extent_record past x).run else None) 1 (extents_made past)
+    (λ x l u. ap2 (λ (b c : Bool). if b && not c then Some (extent_run past x) else None) (in_use_by_record past x) (in_use_by_records s (e ∷ past) x a))

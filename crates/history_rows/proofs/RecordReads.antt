@@ -11,13 +11,13 @@ use Rattle.jx_base.specs.declared.act.Entry.{Entry}
 use Rattle.jx_base.specs.declared.states.DomainState.{DomainState}
 use Rattle.jx_base.specs.declared.program.System.{System}
 use Rattle.jx_base.specs.Basics.{up_to, numbered, passes, contains_number}
-use Rattle.program_model.specs.Limits.{granule_limit}
+use Rattle.program_model.specs.Limits.{domain_limit, granule_limit}
 use Rattle.jx_base.specs.Histories.{Past, nth_entry, count_where}
 use Rattle.jx_model.specs.Domains.{is_live, is_birth, makes_domain, domains_made, birth_of, heap_place_of, creator_of, template_of, named_template}
-use Rattle.jx_model.specs.Portals.{services_made, owner_of, interface_of, exported_interface, has_live_owner, holds_portal}
+use Rattle.jx_model.specs.Portals.{services_made, owner_of, interface_of, exported_interface, has_live_owner, keeps_portal, holds_portal}
 use Rattle.jx_model.specs.Calls.{calls_made, caller_of, has_live_caller}
 use Rattle.jx_model.specs.MemoryObjects.{objects_of, objects_made, is_valid, ends_one_of, lineage_of}
-use Rattle.jx_model.specs.Holding.{holds_object, holders, is_extent_in_use}
+use Rattle.jx_model.specs.Holding.{holds_object, is_extent_in_use}
 use Rattle.jx_model.specs.Granules.{Run, heap_run, heap_granules, is_free_run, least_free, first_fit, is_used_granule, used_runs, lies_in_one}
 use Rattle.jx_model.specs.Replies.{reply_to}
 use Rattle.jx_model.specs.Tables.{domain_record, domain_records, ServiceRecord, service_record, service_records, CallRecord, call_record, call_records, ObjectRecord, object_record, object_records, granule_flags, extent_record, extent_bytes}
@@ -25,16 +25,15 @@ use Rattle.jx_model.specs.Legal.{IsAdmittedPast}
 use Rattle.jx_base.proofs.BasicLaws.{ap2, both}
 use Rattle.jx_base.proofs.NthEntries.{nth_passes, nth_there, nth_none}
 use Rattle.jx_model.proofs.Refusals.{valid_none}
-use Rattle.history_rows.proofs.Records.{get_range, not_that}
-use Rattle.history_rows.proofs.Actors.{live_made}
-use Rattle.history_rows.proofs.Holders.{contains_kept}
-use Rattle.history_rows.proofs.PortalsMade.{held_made}
+use Rattle.history_rows.proofs.Records.{get_range}
+use Rattle.history_rows.proofs.Actors.{live_made, domains_fit}
+use Rattle.history_rows.proofs.Pieces.{is_set}
+use Rattle.jx_model.proofs.Exported.{held_made}
 use Rattle.history_rows.proofs.Riding.{use_made}
 use Rattle.history_rows.proofs.Uses.{Use, ByDomain, ByCall, use_before}
 use Rattle.history_rows.proofs.InUse.{holder_lives, carrier_made}
 use Rattle.history_rows.proofs.CallActs.{call_caller_there}
 use Rattle.history_rows.proofs.Granules.{fits_spawn}
-use Rattle.history_rows.proofs.ServiceRecords.{was_handed}
 use Rattle.history_rows.proofs.Permission.{lives_in, lives_by_records, numbered_record, no_record, unmade_entry}
 use Rattle.history_rows.proofs.Acting.{by_number, owner_in, owner_by_records, no_export, at_most, beyond}
 use Rattle.std.specs.Option.{option_and_then, option_map, unwrap_or}
@@ -102,9 +101,9 @@ template_by_records s past d a =
 -- ---- services
 
 -- the records say a service's interface
-pub interface_by_records : (past : Past) (k : ℕ) → interface_of past k ≡ option_and_then (λ item. item.interface) (numbered (service_records past) k)
+pub interface_by_records : (s : System) (past : Past) (k : ℕ) → interface_of past k ≡ option_and_then (λ item. item.interface) (numbered (service_records s past) k)
 unfolding service_records service_record interface_of
-interface_by_records past k = by (nat_lt 0 k) refl (nat_le k (services_made past)) refl
+interface_by_records s past k = by (nat_lt 0 k) refl (nat_le k (services_made past)) refl
   where
     some : (c : ℕ) → nat_lt 0 c ≡ true → 1 ≤ c
     some c q = grind (arith, nat_tests)
@@ -112,13 +111,13 @@ interface_by_records past k = by (nat_lt 0 k) refl (nat_le k (services_made past
     zeroth : (c : ℕ) → nat_lt 0 c ≡ false → c ≡ 0
     zeroth c q = grind (arith, nat_tests)
 
-    none : (k ≡ 0) ⊎ (services_made past < k) → interface_of past k ≡ option_and_then (λ item. item.interface) (numbered (map (service_record past) (up_to (services_made past))) k)
-    none h = ap (λ (o : Option Entry). option_and_then (λ e. exported_interface e.act e.reply) o) (no_export past k h) ∙ sym (ap (λ (o : Option ServiceRecord). option_and_then (λ item. item.interface) o) (no_record (service_record past) (services_made past) k h))
+    none : (k ≡ 0) ⊎ (services_made past < k) → interface_of past k ≡ option_and_then (λ item. item.interface) (numbered (map (service_record s past) (up_to (services_made past))) k)
+    none h = ap (λ (o : Option Entry). option_and_then (λ e. exported_interface e.act e.reply) o) (no_export past k h) ∙ sym (ap (λ (o : Option ServiceRecord). option_and_then (λ item. item.interface) o) (no_record (service_record s past) (services_made past) k h))
 
-    by : (x : Bool) → nat_lt 0 k ≡ x → (y : Bool) → nat_le k (services_made past) ≡ y → interface_of past k ≡ option_and_then (λ item. item.interface) (numbered (map (service_record past) (up_to (services_made past))) k)
+    by : (x : Bool) → nat_lt 0 k ≡ x → (y : Bool) → nat_le k (services_made past) ≡ y → interface_of past k ≡ option_and_then (λ item. item.interface) (numbered (map (service_record s past) (up_to (services_made past))) k)
     by false q y r = none (inl (zeroth k q))
     by true q false r = none (inr (beyond k (services_made past) r))
-    by true q true r = sym (ap (λ (o : Option ServiceRecord). option_and_then (λ item. item.interface) o) (numbered_record (service_record past) (services_made past) k (some k q) (at_most k (services_made past) r)))
+    by true q true r = sym (ap (λ (o : Option ServiceRecord). option_and_then (λ item. item.interface) o) (numbered_record (service_record s past) (services_made past) k (some k q) (at_most k (services_made past) r)))
 
 passes_same : (o : Option ℕ) (f g : ℕ → Bool) → ((k : ℕ) → f k ≡ g k) → passes f o ≡ passes g o
 unfolding passes
@@ -126,9 +125,9 @@ passes_same None f g h = refl
 passes_same (Some k) f g h = h k
 
 -- the records say whether a service's owner lives
-pub live_owner_by_records : (s : System) (past : Past) (k : ℕ) → has_live_owner past k ≡ passes (lives_in (domain_records s past)) (owner_in (service_records past) k)
+pub live_owner_by_records : (s : System) (past : Past) (k : ℕ) → has_live_owner past k ≡ passes (lives_in (domain_records s past)) (owner_in (service_records s past) k)
 unfolding has_live_owner
-live_owner_by_records s past k = passes_same (owner_of past k) (is_live past) (lives_in (domain_records s past)) (lives_by_records s past) ∙ ap (passes (lives_in (domain_records s past))) (owner_by_records past k)
+live_owner_by_records s past k = passes_same (owner_of past k) (is_live past) (lives_in (domain_records s past)) (lives_by_records s past) ∙ ap (passes (lives_in (domain_records s past))) (owner_by_records s past k)
 
 -- the test of a record by its number, where what isn't made fails
 pub test_by_number : {A : Type 0} (f : ℕ → A) (p : A → Bool) (n c : ℕ) (b : Bool) → (1 ≤ c → c ≤ n → b ≡ p (f c)) → ((c ≡ 0) ⊎ (n < c) → b ≡ false) → b ≡ passes p (numbered (map f (up_to n)) c)
@@ -150,58 +149,34 @@ not_true : (b : Bool) → (b ≡ true → ⊥) → b ≡ false
 not_true true h = absurd (h refl)
 not_true false h = refl
 
-not_among : (p : ℕ → Bool) (a n k : ℕ) → (k < a) ⊎ (a + n ≤ k) → contains_number (filter p (range_with_len a n)) k ≡ false
-unfolding contains_number
-not_among p a zero k h = refl
-not_among p a (suc n) k h = by (p a) (filter p (range_with_len (a + 1) n)) (not_among p (a + 1) n k (later h)) (other h)
+-- whether the flag of that number is set
+abbrev pub flag_at : List Bool → ℕ → Bool
+flag_at flags d = passes is_set (numbered flags d)
+
+-- who passes has its flag set, where nobody passes without a flag
+pub flagged : (p : ℕ → Bool) (n d : ℕ) → (p d ≡ true → (1 ≤ d) × (d ≤ n)) → p d ≡ flag_at (map p (up_to n)) d
+flagged p n d h = test_by_number p is_set n d (p d) (λ l u. refl) (λ x. not_true (p d) (λ z. none x z))
   where
-    later : (k < a) ⊎ (a + suc n ≤ k) → (k < a + 1) ⊎ (a + 1 + n ≤ k)
-    later (inl l) = inl (omega (arith, l))
-    later (inr l) = inr (omega (arith, l))
-
-    other : (k < a) ⊎ (a + suc n ≤ k) → (a == k) ≡ false
-    other (inl l) = not_that a k (λ q. omega (arith, q, l))
-    other (inr l) = not_that a k (λ q. omega (arith, q, l))
-
-    by : (b : Bool) (ys : List ℕ) → contains_number ys k ≡ false → (a == k) ≡ false → contains_number (cond b (a ∷ ys) ys) k ≡ false
-    by true ys h q = ap (λ (x : Bool). x || contains_number ys k) q ∙ h
-    by false ys h q = h
-
--- who is among the numbers that pass passes, where what isn't among them fails
-pub among : (p : ℕ → Bool) (n d : ℕ) → (p d ≡ true → (1 ≤ d) × (d ≤ n)) → p d ≡ contains_number (filter p (up_to n)) d
-unfolding up_to
-among p n d h = by (nat_lt 0 d) refl (nat_le d n) refl
-  where
-    some : (c : ℕ) → nat_lt 0 c ≡ true → 1 ≤ c
-    some c q = grind (arith, nat_tests)
-
-    zeroth : (c : ℕ) → nat_lt 0 c ≡ false → c ≡ 0
-    zeroth c q = grind (arith, nat_tests)
-
-    by : (x : Bool) → nat_lt 0 d ≡ x → (y : Bool) → nat_le d n ≡ y → p d ≡ contains_number (filter p (range_with_len 1 n)) d
-    by false q y r = not_true (p d) (λ z. absurd (omega (arith, (h z).0, zeroth d q))) ∙ sym (not_among p 1 n d (inl (zeroth_low (zeroth d q))))
-      where
-        zeroth_low : d ≡ 0 → d < 1
-        zeroth_low q = omega (arith, q)
-    by true q false r = not_true (p d) (λ z. absurd (omega (arith, (h z).1, beyond d n r))) ∙ sym (not_among p 1 n d (inr (omega (arith, beyond d n r))))
-    by true q true r = sym (contains_kept p 1 n d (some d q) (omega (arith, at_most d n r)))
+    none : (d ≡ 0) ⊎ (n < d) → p d ≡ true → ⊥
+    none (inl q) z = absurd (omega (arith, q, (h z).0))
+    none (inr l) z = absurd (omega (arith, l, (h z).1))
 
 -- who holds a portal is live
 pub portal_lives : (past : Past) (d k : ℕ) → holds_portal past d k ≡ true → is_live past d ≡ true
 unfolding holds_portal
-portal_lives past d k h = (both (is_live past d) (was_handed past d k) h).0
+portal_lives past d k h = (both (is_live past d) (keeps_portal past d k) h).0
 
 -- the records say who holds a portal
-pub portal_by_records : (s : System) (past : Past) (d k : ℕ) → IsAdmittedPast s past → holds_portal past d k ≡ passes (λ item. contains_number item.holders d) (numbered (service_records past) k)
+pub portal_by_records : (s : System) (past : Past) (d k : ℕ) → IsAdmittedPast s past → holds_portal past d k ≡ passes (λ item. flag_at item.holders d) (numbered (service_records s past) k)
 unfolding service_records service_record
 portal_by_records s past d k a =
-    test_by_number (service_record past) (λ (item : ServiceRecord). contains_number item.holders d) (services_made past) k (holds_portal past d k)
-    (λ l u. among (λ d. holds_portal past d k) (domains_made past) d (λ h. let m = live_made past d (portal_lives past d k h) in (m.low, m.high)))
+    test_by_number (service_record s past) (λ (item : ServiceRecord). flag_at item.holders d) (services_made past) k (holds_portal past d k)
+    (λ l u. flagged (λ d. holds_portal past d k) (domain_limit s) d (λ h. let m = live_made past d (portal_lives past d k h) in (m.low, omega (arith, m.high, domains_fit s past a))))
     (λ h. not_true (holds_portal past d k) (λ z. none h z))
   where
     none : (k ≡ 0) ⊎ (services_made past < k) → holds_portal past d k ≡ true → ⊥
-    none (inl q) z = absurd (omega (arith, q, (held_made s past d k a z).low))
-    none (inr l) z = absurd (omega (arith, l, (held_made s past d k a z).high))
+    none (inl q) z = absurd (omega (arith, q, (held_made past d k z).low))
+    none (inr l) z = absurd (omega (arith, l, (held_made past d k z).high))
 
 -- ---- calls and objects
 
@@ -224,10 +199,10 @@ zero_invalid (e ∷ past) =
     least n = grind (arith, nat_tests)
 
 -- the records say which objects are valid
-pub valid_by_records : (past : Past) (m : ℕ) → is_valid past m ≡ passes (λ item. item.valid) (numbered (object_records past) m)
+pub valid_by_records : (s : System) (past : Past) (m : ℕ) → is_valid past m ≡ passes (λ item. item.valid) (numbered (object_records s past) m)
 unfolding object_records object_record
-valid_by_records past m =
-    test_by_number (object_record past) (λ (item : ObjectRecord). item.valid) (objects_made past) m (is_valid past m) (λ l u. refl) none
+valid_by_records s past m =
+    test_by_number (object_record s past) (λ (item : ObjectRecord). item.valid) (objects_made past) m (is_valid past m) (λ l u. refl) none
   where
     above : (a b : ℕ) → b < a → nat_le a b ≡ false
     above a b l = grind (arith, nat_tests)
@@ -250,11 +225,11 @@ zero_unused s [] a (ByCall c h) = let m = carrier_made [] c 0 h in absurd (omega
 zero_unused s (e ∷ past) a u = zero_unused s past a.1 (use_before s e past 0 a (omega arith) u)
 
 -- the records say who holds an object
-pub object_by_records : (s : System) (past : Past) (d m : ℕ) → IsAdmittedPast s past → holds_object past d m ≡ passes (λ item. contains_number item.holders d) (numbered (object_records past) m)
-unfolding object_records object_record holders
+pub object_by_records : (s : System) (past : Past) (d m : ℕ) → IsAdmittedPast s past → holds_object past d m ≡ passes (λ item. flag_at item.holders d) (numbered (object_records s past) m)
+unfolding object_records object_record
 object_by_records s past d m a =
-    test_by_number (object_record past) (λ (item : ObjectRecord). contains_number item.holders d) (objects_made past) m (holds_object past d m)
-    (λ l u. among (λ d. holds_object past d m) (domains_made past) d (λ h. let v = live_made past d (holder_lives past d m h) in (v.low, v.high)))
+    test_by_number (object_record s past) (λ (item : ObjectRecord). flag_at item.holders d) (objects_made past) m (holds_object past d m)
+    (λ l u. flagged (λ d. holds_object past d m) (domain_limit s) d (λ h. let v = live_made past d (holder_lives past d m h) in (v.low, omega (arith, v.high, domains_fit s past a))))
     (λ h. not_true (holds_object past d m) (λ z. none h z))
   where
     none : (m ≡ 0) ⊎ (objects_made past < m) → holds_object past d m ≡ true → ⊥

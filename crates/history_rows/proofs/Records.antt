@@ -236,3 +236,31 @@ pub count_changed : (p q : ℕ → Bool) (n c : ℕ) → 1 ≤ c → c ≤ n →
     length (filter q (up_to n)) + one_if (p c) ≡ length (filter p (up_to n)) + one_if (q c)
 unfolding up_to
 count_changed p q n c l u h = count_range_changed p q 1 n c l (omega (arith, u)) (λ k a b. h k a (omega (arith, b)))
+
+-- ---- records that change each by its number
+
+-- each item changed by its number, counted from that one
+abbrev pub each_from : {A : Type 0} → (ℕ → A → A) → ℕ → List A → List A
+each_from f a [] = []
+each_from f a (x ∷ xs) = f a x ∷ each_from f (a + 1) xs
+
+-- each record changed by its number
+abbrev pub each_record : {A : Type 0} → (ℕ → A → A) → List A → List A
+each_record f xs = each_from f 1 xs
+
+-- the records that a definition gives, each changed
+pub each_map : {A : Type 0} (f : ℕ → A → A) (g : ℕ → A) (a n : ℕ) → each_from f a (map g (range_with_len a n)) ≡ map (λ m. f m (g m)) (range_with_len a n)
+each_map f g a zero = refl
+each_map {A = A} f g a (suc n) = ap (λ (xs : List A). f a (g a) ∷ xs) (each_map f g (a + 1) n)
+
+-- one item changed
+abbrev pub changed_at : {A : Type 0} → ℕ → (A → A) → List A → List A
+changed_at i f [] = []
+changed_at zero f (x ∷ xs) = f x ∷ xs
+changed_at (suc i) f (x ∷ xs) = x ∷ changed_at i f xs
+
+-- to set what a change gives of the item that is there is to change it
+pub set_changed : {A : Type 0} (i : ℕ) (f : A → A) (xs : List A) (x : A) → slice_get xs i ≡ Some x → set xs i (f x) ≡ changed_at i f xs
+set_changed i f [] x h = cc
+set_changed {A = A} zero f (y ∷ xs) x h = let q : y ≡ x = cc in ap (λ (z : A). f z ∷ xs) (sym q)
+set_changed {A = A} (suc i) f (y ∷ xs) x h = ap (λ (zs : List A). y ∷ zs) (set_changed i f xs x h)

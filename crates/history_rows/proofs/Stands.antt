@@ -33,7 +33,7 @@ use Rattle.jx_model.specs.Growth.{new_object_numbers}
 use Rattle.jx_model.specs.Tables.{Kept, StandsFor, ThreadRecord, ServiceRecord, CallRecord, call_record, ExtentRecord, extent_record, extent_bytes, ObjectRecord, named_service, call_records, extent_records}
 use Rattle.jx_model.specs.Legal.{IsNext}
 use Rattle.jx_base.proofs.BasicLaws.{ap2, and_false, and_true}
-use Rattle.history_rows.proofs.Records.{is_that, not_that, or_false}
+use Rattle.history_rows.proofs.Records.{is_that, not_that, or_false, each_from, each_record, changed_at, set_changed}
 use Rattle.history_rows.proofs.Actors.{acts_live, live_made, ended_was_live}
 use Rattle.history_rows.proofs.DomainRecords.{born}
 use Rattle.history_rows.proofs.Stages.{StandsAt, takes_queued, returns_running, throws_running}
@@ -46,13 +46,13 @@ use Rattle.history_rows.proofs.Uses.{undone, turned, ByDomain}
 use Rattle.history_rows.proofs.InUse.{in_use}
 use Rattle.history_rows.proofs.Parts.{part_extent, with_done}
 use Rattle.history_rows.proofs.ByteRecords.{written, bytes_after_fill, others_after_fill, bytes_after_set, others_after_set, bytes_after_copy, others_after_copy}
-use Rattle.history_rows.proofs.PortalsMade.{held_made}
-use Rattle.history_rows.proofs.ServiceRecords.{services_more, services_kept, portal_holders_same, name_same, name_after_bind, name_after_end}
+use Rattle.jx_model.proofs.Exported.{held_made, exported_stays}
+use Rattle.history_rows.proofs.ServiceRecords.{services_more, services_kept, new_service_record, portals_same, name_same, name_after_bind, name_after_end}
 use Rattle.history_rows.proofs.ObjectRecords.{new_object_record}
 use Rattle.history_rows.proofs.ExtentRecords.{extents_more, extents_written, kept_bytes, extent_record_there}
 use Rattle.history_rows.proofs.Freed.{freed_runs}
 use Rattle.history_rows.proofs.Kept.{no_drop, keeps_domains, keeps_services, keeps_names, keeps_calls, keeps_waiting, keeps_parts, keeps_objects, keeps_extents, keeps_taken}
-use Rattle.history_rows.proofs.Every.{each_from, each_record, changed_at, set_changed, portals_after, object_record_after}
+use Rattle.history_rows.proofs.Every.{portals_after, object_record_after}
 use Rattle.history_rows.proofs.Pieces.{in_use_by, domains_born, domains_ended, services_stepped, objects_stepped, objects_beside, each_same, parts_added, extents_counted, extents_stepped, taken_freed, taken_born, born_run, allocated_run, allocated_run_is, taken_allocated}
 use Rattle.std.specs.Option.{option_and_then, option_map, unwrap_or}
 
@@ -109,14 +109,14 @@ stands_after_spawn s k d t x j g h n =
 
 -- an export that makes a service
 pub stands_after_export : (s : System) (k : Kept) (d t : ℕ) (iface : ClassId) (j : ℕ) (v : ServiceId) (c : ClassId) → StandsFor s k → IsNext s k.past (entry d t (act.Export iface j) (reply.Service v c)) → v.0 ≡ services_made k.past + 1 →
-    StandsFor s (record k { past = entry d t (act.Export iface j) (reply.Service v c) ∷ k.past; threads = own_added d (replicate j v) k.threads; services = k.services ++ (record { owner = d; interface = Some iface; holders = d ∷ [] }) ∷ [] })
+    StandsFor s (record k { past = entry d t (act.Export iface j) (reply.Service v c) ∷ k.past; threads = own_added d (replicate j v) k.threads; services = k.services ++ new_service_record s d (Some iface) ∷ [] })
 unfolding is_birth makes_domain ended_by ended_by_act is_export exported_interface received_service received_parcel bound_by_act is_call asked_by queued_as is_take_of is_resume_of answered_by_act new_parts received_objects objects_in is_drop_of ended_object is_allocation makes_extent is_done new_threads is_choice is_halt zero_may gives_portal is_number passes
 stands_after_export s k d t iface j v c h n q =
     record {
       admitted = (n, h.admitted);
       domains = keeps_domains s k (entry d t (act.Export iface j) (reply.Service v c)) h n (record { birth = refl; ends = refl });
       threads = ap (own_added d (replicate j v)) h.threads ∙ sym (threads_exported s k.past (entry d t (act.Export iface j) (reply.Service v c)) (n, h.admitted) refl refl refl);
-      services = ap (λ (xs : List ServiceRecord). xs ++ (record { owner = d; interface = Some iface; holders = d ∷ [] }) ∷ []) h.services ∙ sym (services_more s (entry d t (act.Export iface j) (reply.Service v c)) k.past (n, h.admitted) refl (or_false (v.0 == services_made k.past + 1) ∙ is_that v.0 (services_made k.past + 1) q) refl refl (acts_live s k.past d t (act.Export iface j) refl refl n.thread) (λ b i l u. ap (λ (x : Bool). is_own b (entry d t (act.Export iface j) (reply.Service v c)) && (x || false)) (not_that v.0 i (λ z. omega (arith, z, q, u))) ∙ and_false (is_own b (entry d t (act.Export iface j) (reply.Service v c)))));
+      services = ap (λ (xs : List ServiceRecord). xs ++ new_service_record s d (Some iface) ∷ []) h.services ∙ sym (services_more s (entry d t (act.Export iface j) (reply.Service v c)) k.past n refl (or_false (v.0 == services_made k.past + 1) ∙ is_that v.0 (services_made k.past + 1) q) refl (λ b i l u. ap (λ (x : Bool). is_own b (entry d t (act.Export iface j) (reply.Service v c)) && (x || false)) (not_that v.0 i (λ z. omega (arith, z, q, u))) ∙ and_false (is_own b (entry d t (act.Export iface j) (reply.Service v c)))));
       names = keeps_names s k (entry d t (act.Export iface j) (reply.Service v c)) h n (λ x. refl) refl;
       calls = keeps_calls s k (entry d t (act.Export iface j) (reply.Service v c)) h n (record { call = refl; ends = refl; take = λ x. refl; resume = λ x. refl; answer = λ x. refl });
       waiting = keeps_waiting s k (entry d t (act.Export iface j) (reply.Service v c)) h n (record { call = refl; ends = refl; take = λ x. refl; resume = λ x. refl; answer = λ x. refl });
@@ -136,7 +136,7 @@ stands_after_bind s k d t name v names h n q =
       admitted = (n, h.admitted);
       domains = keeps_domains s k (entry d t (act.Bind name v) reply.Done) h n (record { birth = refl; ends = refl });
       threads = h.threads ∙ sym (threads_left s k.past (entry d t (act.Bind name v) reply.Done) n refl refl refl refl);
-      services = h.services ∙ sym (services_kept (entry d t (act.Bind name v) reply.Done) k.past refl (λ j l u. portal_holders_same s (entry d t (act.Bind name v) reply.Done) k.past j (n, h.admitted) refl (λ b. and_false (is_own b (entry d t (act.Bind name v) reply.Done)))));
+      services = h.services ∙ sym (services_kept s (entry d t (act.Bind name v) reply.Done) k.past refl (λ j l u. portals_same s (entry d t (act.Bind name v) reply.Done) k.past j n (exported_stays (entry d t (act.Bind name v) reply.Done) k.past j (record { low = l; high = u })) refl (λ b. and_false (is_own b (entry d t (act.Bind name v) reply.Done)))));
       names = λ x. q x ∙ ap (λ (b : Bool). if b then (if has_live_owner k.past v.0 then Some v.0 else None) else named_service k.names x) refl ∙ named x (bytes_eq name x) refl;
       calls = keeps_calls s k (entry d t (act.Bind name v) reply.Done) h n (record { call = refl; ends = refl; take = λ x. refl; resume = λ x. refl; answer = λ x. refl });
       waiting = keeps_waiting s k (entry d t (act.Bind name v) reply.Done) h n (record { call = refl; ends = refl; take = λ x. refl; resume = λ x. refl; answer = λ x. refl });
@@ -150,12 +150,12 @@ stands_after_bind s k d t name v names h n q =
     held = turned (holds_portal k.past d v.0) (undone (not (holds_portal k.past d v.0)) _ _ (ap is_done (sym n.reply))).0
 
     named : (x : List ℕ) (b : Bool) → bytes_eq name x ≡ b → (if b then (if has_live_owner k.past v.0 then Some v.0 else None) else named_service k.names x) ≡ bound_service (entry d t (act.Bind name v) reply.Done ∷ k.past) x
-    named x true z = sym (name_after_bind s (entry d t (act.Bind name v) reply.Done) k.past x v.0 h.admitted (held_made s k.past d v.0 h.admitted held).high (ap (λ (b : Bool). if b then Some v.0 else None) z) refl)
+    named x true z = sym (name_after_bind s (entry d t (act.Bind name v) reply.Done) k.past x v.0 h.admitted (held_made k.past d v.0 held).high (ap (λ (b : Bool). if b then Some v.0 else None) z) refl)
     named x false z = h.names x ∙ sym (name_same s (entry d t (act.Bind name v) reply.Done) k.past x h.admitted (ap (λ (b : Bool). if b then Some v.0 else None) z) refl)
 
 -- a lookup that finds a service
 pub stands_after_lookup : (s : System) (k : Kept) (d t : ℕ) (name : List ℕ) (v : ServiceId) (c : ClassId) → StandsFor s k → IsNext s k.past (entry d t (act.Lookup name) (reply.Service v c)) →
-    StandsFor s (record k { past = entry d t (act.Lookup name) (reply.Service v c) ∷ k.past; services = each_record (λ nth item. record item { holders = portals_after (entry d t (act.Lookup name) (reply.Service v c)) (length k.domains) nth item.holders }) k.services })
+    StandsFor s (record k { past = entry d t (act.Lookup name) (reply.Service v c) ∷ k.past; services = each_record (λ nth item. record item { holders = portals_after (entry d t (act.Lookup name) (reply.Service v c)) nth item.holders }) k.services })
 unfolding is_birth makes_domain ended_by ended_by_act is_export exported_interface received_service received_parcel bound_by_act is_call asked_by queued_as is_take_of is_resume_of answered_by_act new_parts received_objects objects_in is_drop_of ended_object is_allocation makes_extent is_done new_threads is_choice
 stands_after_lookup s k d t name v c h n =
     record {
@@ -174,7 +174,7 @@ stands_after_lookup s k d t name v c h n =
 
 -- a call that is queued
 pub stands_after_call : (s : System) (k : Kept) (d t : ℕ) (v : ServiceId) (m : MethodId) (p : Parcel) (c : CallId) → StandsFor s k → IsNext s k.past (entry d t (act.Call v m p) (reply.Queued c)) →
-    StandsFor s (record k { past = entry d t (act.Call v m p) (reply.Queued c) ∷ k.past; threads = own_changed d t (λ item. thread_record_after (service_of_thread k.past d t) item (act.Call v m p) (reply.Queued c)) k.threads; calls = (k.calls ++ (record { caller = d; thread = t; service = v.0; state = call.Queued; carried = parcel_objects p }) ∷ []); waiting = k.waiting ++ (length k.calls + 1) ∷ []; objects = each_record (object_record_after (entry d t (act.Call v m p) (reply.Queued c)) (length k.domains) k.parts (k.calls ++ (record { caller = d; thread = t; service = v.0; state = call.Queued; carried = parcel_objects p }) ∷ [])) k.objects })
+    StandsFor s (record k { past = entry d t (act.Call v m p) (reply.Queued c) ∷ k.past; threads = own_changed d t (λ item. thread_record_after (service_of_thread k.past d t) item (act.Call v m p) (reply.Queued c)) k.threads; calls = (k.calls ++ (record { caller = d; thread = t; service = v.0; state = call.Queued; carried = parcel_objects p }) ∷ []); waiting = k.waiting ++ (length k.calls + 1) ∷ []; objects = each_record (object_record_after (entry d t (act.Call v m p) (reply.Queued c)) k.parts (k.calls ++ (record { caller = d; thread = t; service = v.0; state = call.Queued; carried = parcel_objects p }) ∷ [])) k.objects })
 unfolding is_birth makes_domain ended_by ended_by_act is_export exported_interface received_service received_parcel bound_by_act is_call asked_by queued_as is_take_of is_resume_of answered_by_act new_parts received_objects objects_in is_drop_of ended_object is_allocation makes_extent is_done new_threads is_choice
 stands_after_call s k d t v m p c h n =
     record {
@@ -193,7 +193,7 @@ stands_after_call s k d t v m p c h n =
 
 -- a take
 pub stands_after_take : (s : System) (k : Kept) (d t : ℕ) (c : CallId) (r : Reply) (i : ℕ) → StandsFor s k → IsNext s k.past (entry d t (act.Take c) r) → c.0 ≡ i + 1 →
-    StandsFor s (record k { past = entry d t (act.Take c) r ∷ k.past; threads = own_changed d t (λ item. thread_record_after (service_of_thread k.past d t) item (act.Take c) r) k.threads; services = each_record (λ nth item. record item { holders = portals_after (entry d t (act.Take c) r) (length k.domains) nth item.holders }) k.services; calls = (changed_at i (λ item. record item { state = call.Running; carried = [] }) k.calls); waiting = filter (λ x. not (c.0 == x)) k.waiting; objects = each_record (object_record_after (entry d t (act.Take c) r) (length k.domains) k.parts (changed_at i (λ item. record item { state = call.Running; carried = [] }) k.calls)) k.objects })
+    StandsFor s (record k { past = entry d t (act.Take c) r ∷ k.past; threads = own_changed d t (λ item. thread_record_after (service_of_thread k.past d t) item (act.Take c) r) k.threads; services = each_record (λ nth item. record item { holders = portals_after (entry d t (act.Take c) r) nth item.holders }) k.services; calls = (changed_at i (λ item. record item { state = call.Running; carried = [] }) k.calls); waiting = filter (λ x. not (c.0 == x)) k.waiting; objects = each_record (object_record_after (entry d t (act.Take c) r) k.parts (changed_at i (λ item. record item { state = call.Running; carried = [] }) k.calls)) k.objects })
 unfolding is_birth makes_domain ended_by ended_by_act is_export exported_interface received_service received_parcel bound_by_act is_call asked_by queued_as is_take_of is_resume_of answered_by_act new_parts received_objects objects_in is_drop_of ended_object is_allocation makes_extent is_done new_threads is_choice
 stands_after_take s k d t c r i h n q =
     record {
@@ -212,7 +212,7 @@ stands_after_take s k d t c r i h n q =
 
 -- a return, done or refused
 pub stands_after_return : (s : System) (k : Kept) (d t : ℕ) (c : CallId) (p : Parcel) (r : Reply) (i : ℕ) → StandsFor s k → IsNext s k.past (entry d t (act.Return c p) r) → c.0 ≡ i + 1 →
-    StandsFor s (record k { past = entry d t (act.Return c p) r ∷ k.past; threads = own_changed d t (λ item. thread_record_after (service_of_thread k.past d t) item (act.Return c p) r) k.threads; calls = (changed_at i (λ item. record item { state = call.Answered (answer_kind (answer_by_reply r (Answer.Value p))); carried = answer_objects (Some (answer_by_reply r (Answer.Value p))) }) k.calls); objects = each_record (object_record_after (entry d t (act.Return c p) r) (length k.domains) k.parts (changed_at i (λ item. record item { state = call.Answered (answer_kind (answer_by_reply r (Answer.Value p))); carried = answer_objects (Some (answer_by_reply r (Answer.Value p))) }) k.calls)) k.objects })
+    StandsFor s (record k { past = entry d t (act.Return c p) r ∷ k.past; threads = own_changed d t (λ item. thread_record_after (service_of_thread k.past d t) item (act.Return c p) r) k.threads; calls = (changed_at i (λ item. record item { state = call.Answered (answer_kind (answer_by_reply r (Answer.Value p))); carried = answer_objects (Some (answer_by_reply r (Answer.Value p))) }) k.calls); objects = each_record (object_record_after (entry d t (act.Return c p) r) k.parts (changed_at i (λ item. record item { state = call.Answered (answer_kind (answer_by_reply r (Answer.Value p))); carried = answer_objects (Some (answer_by_reply r (Answer.Value p))) }) k.calls)) k.objects })
 unfolding is_birth makes_domain ended_by ended_by_act is_export exported_interface received_service received_parcel bound_by_act is_call asked_by queued_as is_take_of is_resume_of answered_by_act new_parts received_objects objects_in is_drop_of ended_object is_allocation makes_extent is_done new_threads is_choice reply_to
 stands_after_return s k d t c p r i h n q =
     record {
@@ -231,7 +231,7 @@ stands_after_return s k d t c p r i h n q =
 
 -- a throw, done or refused
 pub stands_after_throw : (s : System) (k : Kept) (d t : ℕ) (c : CallId) (p : Parcel) (r : Reply) (i : ℕ) → StandsFor s k → IsNext s k.past (entry d t (act.Throw c p) r) → c.0 ≡ i + 1 →
-    StandsFor s (record k { past = entry d t (act.Throw c p) r ∷ k.past; threads = own_changed d t (λ item. thread_record_after (service_of_thread k.past d t) item (act.Throw c p) r) k.threads; calls = (changed_at i (λ item. record item { state = call.Answered (answer_kind (answer_by_reply r (thrown p))); carried = answer_objects (Some (answer_by_reply r (thrown p))) }) k.calls); objects = each_record (object_record_after (entry d t (act.Throw c p) r) (length k.domains) k.parts (changed_at i (λ item. record item { state = call.Answered (answer_kind (answer_by_reply r (thrown p))); carried = answer_objects (Some (answer_by_reply r (thrown p))) }) k.calls)) k.objects })
+    StandsFor s (record k { past = entry d t (act.Throw c p) r ∷ k.past; threads = own_changed d t (λ item. thread_record_after (service_of_thread k.past d t) item (act.Throw c p) r) k.threads; calls = (changed_at i (λ item. record item { state = call.Answered (answer_kind (answer_by_reply r (thrown p))); carried = answer_objects (Some (answer_by_reply r (thrown p))) }) k.calls); objects = each_record (object_record_after (entry d t (act.Throw c p) r) k.parts (changed_at i (λ item. record item { state = call.Answered (answer_kind (answer_by_reply r (thrown p))); carried = answer_objects (Some (answer_by_reply r (thrown p))) }) k.calls)) k.objects })
 unfolding is_birth makes_domain ended_by ended_by_act is_export exported_interface received_service received_parcel bound_by_act is_call asked_by queued_as is_take_of is_resume_of answered_by_act new_parts received_objects objects_in is_drop_of ended_object is_allocation makes_extent is_done new_threads is_choice reply_to
 stands_after_throw s k d t c p r i h n q =
     record {
@@ -250,7 +250,7 @@ stands_after_throw s k d t c p r i h n q =
 
 -- a resume after an answered call
 pub stands_after_resume : (s : System) (k : Kept) (d t : ℕ) (c : CallId) (r : Reply) (i : ℕ) (j : AnswerKind) → StandsFor s k → IsNext s k.past (entry d t (act.Resume c) r) → c.0 ≡ i + 1 → StandsAt k.past c.0 (call.Answered j) →
-    StandsFor s (record k { past = entry d t (act.Resume c) r ∷ k.past; threads = own_changed d t (λ item. thread_record_after (service_of_thread k.past d t) item (act.Resume c) r) k.threads; services = each_record (λ nth item. record item { holders = portals_after (entry d t (act.Resume c) r) (length k.domains) nth item.holders }) k.services; calls = (changed_at i (λ item. record item { state = call.Resumed; carried = [] }) k.calls); objects = each_record (object_record_after (entry d t (act.Resume c) r) (length k.domains) k.parts (changed_at i (λ item. record item { state = call.Resumed; carried = [] }) k.calls)) k.objects })
+    StandsFor s (record k { past = entry d t (act.Resume c) r ∷ k.past; threads = own_changed d t (λ item. thread_record_after (service_of_thread k.past d t) item (act.Resume c) r) k.threads; services = each_record (λ nth item. record item { holders = portals_after (entry d t (act.Resume c) r) nth item.holders }) k.services; calls = (changed_at i (λ item. record item { state = call.Resumed; carried = [] }) k.calls); objects = each_record (object_record_after (entry d t (act.Resume c) r) k.parts (changed_at i (λ item. record item { state = call.Resumed; carried = [] }) k.calls)) k.objects })
 unfolding is_birth makes_domain ended_by ended_by_act is_export exported_interface received_service received_parcel bound_by_act is_call asked_by queued_as is_take_of is_resume_of answered_by_act new_parts received_objects objects_in is_drop_of ended_object is_allocation makes_extent is_done new_threads is_choice
 stands_after_resume s k d t c r i j h n q st =
     record {
@@ -269,7 +269,7 @@ stands_after_resume s k d t c r i j h n q st =
 
 -- an allocation
 pub stands_after_alloc : (s : System) (k : Kept) (d t : ℕ) (z : ℤ) (m : ObjectId) (g : ℕ) → StandsFor s k → IsNext s k.past (entry d t (act.Alloc z) (reply.Made m g)) →
-    StandsFor s (record k { past = entry d t (act.Alloc z) (reply.Made m g) ∷ k.past; parts = k.parts ++ ((record { parent = 0; extent = length k.extents + 1; from = 0; size = not_below_zero z }) ∷ []); objects = k.objects ++ new_object_record d ∷ []; extents = k.extents ++ (record { run = allocated_run (entry d t (act.Alloc z) (reply.Made m g)); bytes = Some (replicate (not_below_zero z) 0) }) ∷ []; taken = each_from (λ i used. used || lies_in i (allocated_run (entry d t (act.Alloc z) (reply.Made m g)))) 0 k.taken })
+    StandsFor s (record k { past = entry d t (act.Alloc z) (reply.Made m g) ∷ k.past; parts = k.parts ++ ((record { parent = 0; extent = length k.extents + 1; from = 0; size = not_below_zero z }) ∷ []); objects = k.objects ++ new_object_record s d ∷ []; extents = k.extents ++ (record { run = allocated_run (entry d t (act.Alloc z) (reply.Made m g)); bytes = Some (replicate (not_below_zero z) 0) }) ∷ []; taken = each_from (λ i used. used || lies_in i (allocated_run (entry d t (act.Alloc z) (reply.Made m g)))) 0 k.taken })
 unfolding is_birth makes_domain ended_by ended_by_act is_export exported_interface received_service received_parcel bound_by_act is_call asked_by queued_as is_take_of is_resume_of answered_by_act new_parts received_objects objects_in is_drop_of ended_object is_allocation makes_extent is_done new_threads is_choice is_halt zero_may new_object_numbers ends_one_of passes allocated_bytes
 stands_after_alloc s k d t z m g h n =
     record {
@@ -281,14 +281,14 @@ stands_after_alloc s k d t z m g h n =
       calls = keeps_calls s k (entry d t (act.Alloc z) (reply.Made m g)) h n (record { call = refl; ends = refl; take = λ x. refl; resume = λ x. refl; answer = λ x. refl });
       waiting = keeps_waiting s k (entry d t (act.Alloc z) (reply.Made m g)) h n (record { call = refl; ends = refl; take = λ x. refl; resume = λ x. refl; answer = λ x. refl });
       parts = parts_added s k (entry d t (act.Alloc z) (reply.Made m g)) h n ((record { parent = 0; extent = length k.extents + 1; from = 0; size = not_below_zero z }) ∷ []) (ap (λ (x : ℕ). let p : Part = (record { parent = 0; extent = x + 1; from = 0; size = not_below_zero z }) in p ∷ []) (extents_counted s k (entry d t (act.Alloc z) (reply.Made m g)) h n));
-      objects = ap (λ (xs : List ObjectRecord). xs ++ new_object_record d ∷ []) (sym (each_same (λ m item. record item { valid = item.valid && true }) 1 k.objects (λ m item. ap (λ (b : Bool). let x : ObjectRecord = record item { valid = b } in x) (and_true item.valid)))) ∙ objects_beside s k (entry d t (act.Alloc z) (reply.Made m g)) h n 1 refl refl (acts_live s k.past d t (act.Alloc z) refl refl n.thread) refl refl (no_drop (entry d t (act.Alloc z) (reply.Made m g)) (λ x. refl)) (calls_untouched s (entry d t (act.Alloc z) (reply.Made m g)) k.past h.admitted (record { call = refl; ends = refl; take = λ x. refl; resume = λ x. refl; answer = λ x. refl }));
+      objects = ap (λ (xs : List ObjectRecord). xs ++ new_object_record s d ∷ []) (sym (each_same (λ m item. record item { valid = item.valid && true }) 1 k.objects (λ m item. ap (λ (b : Bool). let x : ObjectRecord = record item { valid = b } in x) (and_true item.valid)))) ∙ objects_beside s k (entry d t (act.Alloc z) (reply.Made m g)) h n 1 refl refl refl (no_drop (entry d t (act.Alloc z) (reply.Made m g)) (λ x. refl)) (calls_untouched s (entry d t (act.Alloc z) (reply.Made m g)) k.past h.admitted (record { call = refl; ends = refl; take = λ x. refl; resume = λ x. refl; answer = λ x. refl }));
       extents = ap (λ (xs : List ExtentRecord). xs ++ (record { run = allocated_run (entry d t (act.Alloc z) (reply.Made m g)); bytes = Some (replicate (not_below_zero z) 0) }) ∷ []) h.extents ∙ ap (λ (r : Run). let item : ExtentRecord = record { run = r; bytes = Some (replicate (not_below_zero z) 0) } in extent_records k.past ++ item ∷ []) (sym (allocated_run_is s k (entry d t (act.Alloc z) (reply.Made m g)) h n refl)) ∙ sym (extents_more s (entry d t (act.Alloc z) (reply.Made m g)) k.past (n, h.admitted) refl refl (acts_live s k.past d t (act.Alloc z) refl refl n.thread) (no_drop (entry d t (act.Alloc z) (reply.Made m g)) (λ x. refl)) refl);
       taken = taken_allocated s k (entry d t (act.Alloc z) (reply.Made m g)) h n refl refl (no_drop (entry d t (act.Alloc z) (reply.Made m g)) (λ x. refl)) (acts_live s k.past d t (act.Alloc z) refl refl n.thread);
     }
 
 -- a sub of an object of that part
 pub stands_after_sub : (s : System) (k : Kept) (d t : ℕ) (m : ObjectId) (at count : ℤ) (new : ObjectId) (o : Part) → StandsFor s k → IsNext s k.past (entry d t (act.Sub m at count) (reply.Object new)) → numbered k.parts m.0 ≡ Some o →
-    StandsFor s (record k { past = entry d t (act.Sub m at count) (reply.Object new) ∷ k.past; parts = k.parts ++ part_within m.0 o (not_below_zero at) (not_below_zero count) ∷ []; objects = k.objects ++ new_object_record d ∷ [] })
+    StandsFor s (record k { past = entry d t (act.Sub m at count) (reply.Object new) ∷ k.past; parts = k.parts ++ part_within m.0 o (not_below_zero at) (not_below_zero count) ∷ []; objects = k.objects ++ new_object_record s d ∷ [] })
 unfolding is_birth makes_domain ended_by ended_by_act is_export exported_interface received_service received_parcel bound_by_act is_call asked_by queued_as is_take_of is_resume_of answered_by_act new_parts received_objects objects_in is_drop_of ended_object is_allocation makes_extent is_done new_threads is_choice is_halt zero_may new_object_numbers ends_one_of passes made_of
 stands_after_sub s k d t m at count new o h n q =
     record {
@@ -300,14 +300,14 @@ stands_after_sub s k d t m at count new o h n q =
       calls = keeps_calls s k (entry d t (act.Sub m at count) (reply.Object new)) h n (record { call = refl; ends = refl; take = λ x. refl; resume = λ x. refl; answer = λ x. refl });
       waiting = keeps_waiting s k (entry d t (act.Sub m at count) (reply.Object new)) h n (record { call = refl; ends = refl; take = λ x. refl; resume = λ x. refl; answer = λ x. refl });
       parts = parts_added s k (entry d t (act.Sub m at count) (reply.Object new)) h n (part_within m.0 o (not_below_zero at) (not_below_zero count) ∷ []) (ap (λ (p : Option Part). made_of p (λ o. part_within m.0 o (not_below_zero at) (not_below_zero count) ∷ [])) (sym q));
-      objects = ap (λ (xs : List ObjectRecord). xs ++ new_object_record d ∷ []) (sym (each_same (λ m item. record item { valid = item.valid && true }) 1 k.objects (λ m item. ap (λ (b : Bool). let x : ObjectRecord = record item { valid = b } in x) (and_true item.valid)))) ∙ objects_beside s k (entry d t (act.Sub m at count) (reply.Object new)) h n 1 refl refl (acts_live s k.past d t (act.Sub m at count) refl refl n.thread) (ap (λ (p : Option Part). length (made_of p (λ o. part_within m.0 o (not_below_zero at) (not_below_zero count) ∷ []))) (sym q ∙ ap (λ (xs : List Part). numbered xs m.0) h.parts)) refl (no_drop (entry d t (act.Sub m at count) (reply.Object new)) (λ x. refl)) (calls_untouched s (entry d t (act.Sub m at count) (reply.Object new)) k.past h.admitted (record { call = refl; ends = refl; take = λ x. refl; resume = λ x. refl; answer = λ x. refl }));
+      objects = ap (λ (xs : List ObjectRecord). xs ++ new_object_record s d ∷ []) (sym (each_same (λ m item. record item { valid = item.valid && true }) 1 k.objects (λ m item. ap (λ (b : Bool). let x : ObjectRecord = record item { valid = b } in x) (and_true item.valid)))) ∙ objects_beside s k (entry d t (act.Sub m at count) (reply.Object new)) h n 1 refl (ap (λ (p : Option Part). length (made_of p (λ o. part_within m.0 o (not_below_zero at) (not_below_zero count) ∷ []))) (sym q ∙ ap (λ (xs : List Part). numbered xs m.0) h.parts)) refl (no_drop (entry d t (act.Sub m at count) (reply.Object new)) (λ x. refl)) (calls_untouched s (entry d t (act.Sub m at count) (reply.Object new)) k.past h.admitted (record { call = refl; ends = refl; take = λ x. refl; resume = λ x. refl; answer = λ x. refl }));
       extents = keeps_extents s k (entry d t (act.Sub m at count) (reply.Object new)) h n refl refl (λ x. refl) refl;
       taken = keeps_taken s k (entry d t (act.Sub m at count) (reply.Object new)) h n (record { birth = refl; ends = refl }) refl (λ x. refl);
     }
 
 -- a split of an object of that part: it and what is derived from it are valid no more
 pub stands_after_split : (s : System) (k : Kept) (d t : ℕ) (m : ObjectId) (at : ℤ) (x y : ObjectId) (o : Part) → StandsFor s k → IsNext s k.past (entry d t (act.Split m at) (reply.Pair x y)) → numbered k.parts m.0 ≡ Some o →
-    StandsFor s (record k { past = entry d t (act.Split m at) (reply.Pair x y) ∷ k.past; parts = k.parts ++ (sides_at (not_below_zero at) o); objects = each_record (λ j item. record item { valid = item.valid && not (contains_number (lineage_of k.parts j) m.0) }) k.objects ++ replicate 2 (new_object_record d) })
+    StandsFor s (record k { past = entry d t (act.Split m at) (reply.Pair x y) ∷ k.past; parts = k.parts ++ (sides_at (not_below_zero at) o); objects = each_record (λ j item. record item { valid = item.valid && not (contains_number (lineage_of k.parts j) m.0) }) k.objects ++ replicate 2 (new_object_record s d) })
 unfolding is_birth makes_domain ended_by ended_by_act is_export exported_interface received_service received_parcel bound_by_act is_call asked_by queued_as is_take_of is_resume_of answered_by_act new_parts received_objects objects_in is_drop_of ended_object is_allocation makes_extent is_done new_threads is_choice is_halt zero_may new_object_numbers ends_one_of passes made_of sides_at
 stands_after_split s k d t m at x y o h n q =
     record {
@@ -319,14 +319,14 @@ stands_after_split s k d t m at x y o h n q =
       calls = keeps_calls s k (entry d t (act.Split m at) (reply.Pair x y)) h n (record { call = refl; ends = refl; take = λ x. refl; resume = λ x. refl; answer = λ x. refl });
       waiting = keeps_waiting s k (entry d t (act.Split m at) (reply.Pair x y)) h n (record { call = refl; ends = refl; take = λ x. refl; resume = λ x. refl; answer = λ x. refl });
       parts = parts_added s k (entry d t (act.Split m at) (reply.Pair x y)) h n (sides_at (not_below_zero at) o) (ap (λ (p : Option Part). made_of p (sides_at (not_below_zero at))) (sym q));
-      objects = objects_beside s k (entry d t (act.Split m at) (reply.Pair x y)) h n 2 refl refl (acts_live s k.past d t (act.Split m at) refl refl n.thread) (ap (λ (p : Option Part). length (made_of p (sides_at (not_below_zero at)))) (sym q ∙ ap (λ (xs : List Part). numbered xs m.0) h.parts)) refl (no_drop (entry d t (act.Split m at) (reply.Pair x y)) (λ x. refl)) (calls_untouched s (entry d t (act.Split m at) (reply.Pair x y)) k.past h.admitted (record { call = refl; ends = refl; take = λ x. refl; resume = λ x. refl; answer = λ x. refl }));
+      objects = objects_beside s k (entry d t (act.Split m at) (reply.Pair x y)) h n 2 refl (ap (λ (p : Option Part). length (made_of p (sides_at (not_below_zero at)))) (sym q ∙ ap (λ (xs : List Part). numbered xs m.0) h.parts)) refl (no_drop (entry d t (act.Split m at) (reply.Pair x y)) (λ x. refl)) (calls_untouched s (entry d t (act.Split m at) (reply.Pair x y)) k.past h.admitted (record { call = refl; ends = refl; take = λ x. refl; resume = λ x. refl; answer = λ x. refl }));
       extents = keeps_extents s k (entry d t (act.Split m at) (reply.Pair x y)) h n refl refl (λ x. refl) refl;
       taken = keeps_taken s k (entry d t (act.Split m at) (reply.Pair x y)) h n (record { birth = refl; ends = refl }) refl (λ x. refl);
     }
 
 -- a revoke of an object of that part: it and what is derived from it are valid no more
 pub stands_after_revoke : (s : System) (k : Kept) (d t : ℕ) (m new : ObjectId) (o : Part) → StandsFor s k → IsNext s k.past (entry d t (act.Revoke m) (reply.Object new)) → numbered k.parts m.0 ≡ Some o →
-    StandsFor s (record k { past = entry d t (act.Revoke m) (reply.Object new) ∷ k.past; parts = k.parts ++ (o ∷ []); objects = each_record (λ j item. record item { valid = item.valid && not (contains_number (lineage_of k.parts j) m.0) }) k.objects ++ replicate 1 (new_object_record d) })
+    StandsFor s (record k { past = entry d t (act.Revoke m) (reply.Object new) ∷ k.past; parts = k.parts ++ (o ∷ []); objects = each_record (λ j item. record item { valid = item.valid && not (contains_number (lineage_of k.parts j) m.0) }) k.objects ++ replicate 1 (new_object_record s d) })
 unfolding is_birth makes_domain ended_by ended_by_act is_export exported_interface received_service received_parcel bound_by_act is_call asked_by queued_as is_take_of is_resume_of answered_by_act new_parts received_objects objects_in is_drop_of ended_object is_allocation makes_extent is_done new_threads is_choice is_halt zero_may new_object_numbers ends_one_of passes made_of sides_at
 stands_after_revoke s k d t m new o h n q =
     record {
@@ -338,7 +338,7 @@ stands_after_revoke s k d t m new o h n q =
       calls = keeps_calls s k (entry d t (act.Revoke m) (reply.Object new)) h n (record { call = refl; ends = refl; take = λ x. refl; resume = λ x. refl; answer = λ x. refl });
       waiting = keeps_waiting s k (entry d t (act.Revoke m) (reply.Object new)) h n (record { call = refl; ends = refl; take = λ x. refl; resume = λ x. refl; answer = λ x. refl });
       parts = parts_added s k (entry d t (act.Revoke m) (reply.Object new)) h n (o ∷ []) (ap (λ (p : Option Part). made_of p (λ o. o ∷ [])) (sym q));
-      objects = objects_beside s k (entry d t (act.Revoke m) (reply.Object new)) h n 1 refl refl (acts_live s k.past d t (act.Revoke m) refl refl n.thread) (ap (λ (p : Option Part). length (made_of p (λ o. o ∷ []))) (sym q ∙ ap (λ (xs : List Part). numbered xs m.0) h.parts)) refl (no_drop (entry d t (act.Revoke m) (reply.Object new)) (λ x. refl)) (calls_untouched s (entry d t (act.Revoke m) (reply.Object new)) k.past h.admitted (record { call = refl; ends = refl; take = λ x. refl; resume = λ x. refl; answer = λ x. refl }));
+      objects = objects_beside s k (entry d t (act.Revoke m) (reply.Object new)) h n 1 refl (ap (λ (p : Option Part). length (made_of p (λ o. o ∷ []))) (sym q ∙ ap (λ (xs : List Part). numbered xs m.0) h.parts)) refl (no_drop (entry d t (act.Revoke m) (reply.Object new)) (λ x. refl)) (calls_untouched s (entry d t (act.Revoke m) (reply.Object new)) k.past h.admitted (record { call = refl; ends = refl; take = λ x. refl; resume = λ x. refl; answer = λ x. refl }));
       extents = keeps_extents s k (entry d t (act.Revoke m) (reply.Object new)) h n refl refl (λ x. refl) refl;
       taken = keeps_taken s k (entry d t (act.Revoke m) (reply.Object new)) h n (record { birth = refl; ends = refl }) refl (λ x. refl);
     }
@@ -471,7 +471,7 @@ stands_after_copy s k d t j j_at m at count source o i h n q z y =
 
 -- a release
 pub stands_after_release : (s : System) (k : Kept) (d t : ℕ) (m : ObjectId) → StandsFor s k → IsNext s k.past (entry d t (act.Release m) reply.Done) →
-    StandsFor s (record k { past = entry d t (act.Release m) reply.Done ∷ k.past; objects = (each_record (object_record_after (entry d t (act.Release m) reply.Done) (length k.domains) k.parts k.calls) k.objects); extents = each_record (λ x item. record item { bytes = if in_use_by k.parts (each_record (object_record_after (entry d t (act.Release m) reply.Done) (length k.domains) k.parts k.calls) k.objects) x then item.bytes else None }) k.extents; taken = each_from (λ i used. used && not (lies_in_one (freed_runs s (entry d t (act.Release m) reply.Done) k.past) i)) 0 k.taken })
+    StandsFor s (record k { past = entry d t (act.Release m) reply.Done ∷ k.past; objects = (each_record (object_record_after (entry d t (act.Release m) reply.Done) k.parts k.calls) k.objects); extents = each_record (λ x item. record item { bytes = if in_use_by k.parts (each_record (object_record_after (entry d t (act.Release m) reply.Done) k.parts k.calls) k.objects) x then item.bytes else None }) k.extents; taken = each_from (λ i used. used && not (lies_in_one (freed_runs s (entry d t (act.Release m) reply.Done) k.past) i)) 0 k.taken })
 unfolding is_birth makes_domain ended_by ended_by_act is_export exported_interface received_service received_parcel bound_by_act is_call asked_by queued_as is_take_of is_resume_of answered_by_act new_parts received_objects objects_in is_drop_of ended_object is_allocation makes_extent is_done new_threads is_choice
 stands_after_release s k d t m h n =
     record {
@@ -484,14 +484,14 @@ stands_after_release s k d t m h n =
       waiting = keeps_waiting s k (entry d t (act.Release m) reply.Done) h n (record { call = refl; ends = refl; take = λ x. refl; resume = λ x. refl; answer = λ x. refl });
       parts = keeps_parts s k (entry d t (act.Release m) reply.Done) h n refl;
       objects = (objects_stepped s k (entry d t (act.Release m) reply.Done) h n k.calls refl (keeps_calls s k (entry d t (act.Release m) reply.Done) h n (record { call = refl; ends = refl; take = λ x. refl; resume = λ x. refl; answer = λ x. refl })));
-      extents = extents_stepped s k (entry d t (act.Release m) reply.Done) h n k.parts (each_record (object_record_after (entry d t (act.Release m) reply.Done) (length k.domains) k.parts k.calls) k.objects) refl refl (keeps_parts s k (entry d t (act.Release m) reply.Done) h n refl) (objects_stepped s k (entry d t (act.Release m) reply.Done) h n k.calls refl (keeps_calls s k (entry d t (act.Release m) reply.Done) h n (record { call = refl; ends = refl; take = λ x. refl; resume = λ x. refl; answer = λ x. refl })));
+      extents = extents_stepped s k (entry d t (act.Release m) reply.Done) h n k.parts (each_record (object_record_after (entry d t (act.Release m) reply.Done) k.parts k.calls) k.objects) refl refl (keeps_parts s k (entry d t (act.Release m) reply.Done) h n refl) (objects_stepped s k (entry d t (act.Release m) reply.Done) h n k.calls refl (keeps_calls s k (entry d t (act.Release m) reply.Done) h n (record { call = refl; ends = refl; take = λ x. refl; resume = λ x. refl; answer = λ x. refl })));
       taken = taken_freed s k (entry d t (act.Release m) reply.Done) h n refl refl;
     }
 
 -- an exit
 pub stands_after_exit : (s : System) (k : Kept) (d t : ℕ) (code : ℤ) (r : Reply) (i : ℕ) (names : List (List ℕ × ℕ)) → StandsFor s k → IsNext s k.past (entry d t (act.Exit code) r) → d ≡ i + 1 →
     ((x : List ℕ) → named_service names x ≡ option_and_then (λ y. if is_number (owner_of k.past y) d then None else Some y) (named_service k.names x)) →
-    StandsFor s (record k { past = entry d t (act.Exit code) r ∷ k.past; domains = changed_at i (λ item. record item { ended = Some (reason.Exit code) }) k.domains; services = each_record (λ nth item. record item { holders = portals_after (entry d t (act.Exit code) r) (length k.domains) nth item.holders }) k.services; names = names; calls = (map (ended_call (owned_by k.past d) d) k.calls); waiting = filter (λ c. not (owned_by k.past d (unwrap_or (service_of_call k.past c) 0))) k.waiting; objects = (each_record (object_record_after (entry d t (act.Exit code) r) (length k.domains) k.parts (map (ended_call (owned_by k.past d) d) k.calls)) k.objects); extents = each_record (λ x item. record item { bytes = if in_use_by k.parts (each_record (object_record_after (entry d t (act.Exit code) r) (length k.domains) k.parts (map (ended_call (owned_by k.past d) d) k.calls)) k.objects) x then item.bytes else None }) k.extents; taken = each_from (λ i used. used && not (lies_in_one (freed_runs s (entry d t (act.Exit code) r) k.past) i)) 0 k.taken })
+    StandsFor s (record k { past = entry d t (act.Exit code) r ∷ k.past; domains = changed_at i (λ item. record item { ended = Some (reason.Exit code) }) k.domains; services = each_record (λ nth item. record item { holders = portals_after (entry d t (act.Exit code) r) nth item.holders }) k.services; names = names; calls = (map (ended_call (owned_by k.past d) d) k.calls); waiting = filter (λ c. not (owned_by k.past d (unwrap_or (service_of_call k.past c) 0))) k.waiting; objects = (each_record (object_record_after (entry d t (act.Exit code) r) k.parts (map (ended_call (owned_by k.past d) d) k.calls)) k.objects); extents = each_record (λ x item. record item { bytes = if in_use_by k.parts (each_record (object_record_after (entry d t (act.Exit code) r) k.parts (map (ended_call (owned_by k.past d) d) k.calls)) k.objects) x then item.bytes else None }) k.extents; taken = each_from (λ i used. used && not (lies_in_one (freed_runs s (entry d t (act.Exit code) r) k.past) i)) 0 k.taken })
 unfolding is_birth makes_domain ended_by ended_by_act is_export exported_interface received_service received_parcel bound_by_act is_call asked_by queued_as is_take_of is_resume_of answered_by_act new_parts received_objects objects_in is_drop_of ended_object is_allocation makes_extent is_done new_threads is_choice
 stands_after_exit s k d t code r i names h n q v =
     record {
@@ -504,14 +504,14 @@ stands_after_exit s k d t code r i names h n q v =
       waiting = ap (filter (λ c. not (owned_by k.past d (unwrap_or (service_of_call k.past c) 0)))) h.waiting ∙ sym (waiting_after_end k.past (entry d t (act.Exit code) r) d (record { why = (reason.Exit code); ends = refl; call = refl; take = λ x. refl; resume = λ x. refl; answer = λ x. refl }));
       parts = keeps_parts s k (entry d t (act.Exit code) r) h n refl;
       objects = (objects_stepped s k (entry d t (act.Exit code) r) h n (map (ended_call (owned_by k.past d) d) k.calls) refl (ap (map (ended_call (owned_by k.past d) d)) h.calls ∙ sym (calls_after_end s k.past (entry d t (act.Exit code) r) d h.admitted (record { why = (reason.Exit code); ends = refl; call = refl; take = λ x. refl; resume = λ x. refl; answer = λ x. refl }))));
-      extents = extents_stepped s k (entry d t (act.Exit code) r) h n k.parts (each_record (object_record_after (entry d t (act.Exit code) r) (length k.domains) k.parts (map (ended_call (owned_by k.past d) d) k.calls)) k.objects) refl (and_false (is_done r)) (keeps_parts s k (entry d t (act.Exit code) r) h n refl) (objects_stepped s k (entry d t (act.Exit code) r) h n (map (ended_call (owned_by k.past d) d) k.calls) refl (ap (map (ended_call (owned_by k.past d) d)) h.calls ∙ sym (calls_after_end s k.past (entry d t (act.Exit code) r) d h.admitted (record { why = (reason.Exit code); ends = refl; call = refl; take = λ x. refl; resume = λ x. refl; answer = λ x. refl }))));
+      extents = extents_stepped s k (entry d t (act.Exit code) r) h n k.parts (each_record (object_record_after (entry d t (act.Exit code) r) k.parts (map (ended_call (owned_by k.past d) d) k.calls)) k.objects) refl (and_false (is_done r)) (keeps_parts s k (entry d t (act.Exit code) r) h n refl) (objects_stepped s k (entry d t (act.Exit code) r) h n (map (ended_call (owned_by k.past d) d) k.calls) refl (ap (map (ended_call (owned_by k.past d) d)) h.calls ∙ sym (calls_after_end s k.past (entry d t (act.Exit code) r) d h.admitted (record { why = (reason.Exit code); ends = refl; call = refl; take = λ x. refl; resume = λ x. refl; answer = λ x. refl }))));
       taken = taken_freed s k (entry d t (act.Exit code) r) h n refl refl;
     }
 
 -- an end
 pub stands_after_end : (s : System) (k : Kept) (d t : ℕ) (why : Reason) (r : Reply) (i : ℕ) (names : List (List ℕ × ℕ)) → StandsFor s k → IsNext s k.past (entry d t (act.End why) r) → d ≡ i + 1 →
     ((x : List ℕ) → named_service names x ≡ option_and_then (λ y. if is_number (owner_of k.past y) d then None else Some y) (named_service k.names x)) →
-    StandsFor s (record k { past = entry d t (act.End why) r ∷ k.past; domains = changed_at i (λ item. record item { ended = Some why }) k.domains; services = each_record (λ nth item. record item { holders = portals_after (entry d t (act.End why) r) (length k.domains) nth item.holders }) k.services; names = names; calls = (map (ended_call (owned_by k.past d) d) k.calls); waiting = filter (λ c. not (owned_by k.past d (unwrap_or (service_of_call k.past c) 0))) k.waiting; objects = (each_record (object_record_after (entry d t (act.End why) r) (length k.domains) k.parts (map (ended_call (owned_by k.past d) d) k.calls)) k.objects); extents = each_record (λ x item. record item { bytes = if in_use_by k.parts (each_record (object_record_after (entry d t (act.End why) r) (length k.domains) k.parts (map (ended_call (owned_by k.past d) d) k.calls)) k.objects) x then item.bytes else None }) k.extents; taken = each_from (λ i used. used && not (lies_in_one (freed_runs s (entry d t (act.End why) r) k.past) i)) 0 k.taken })
+    StandsFor s (record k { past = entry d t (act.End why) r ∷ k.past; domains = changed_at i (λ item. record item { ended = Some why }) k.domains; services = each_record (λ nth item. record item { holders = portals_after (entry d t (act.End why) r) nth item.holders }) k.services; names = names; calls = (map (ended_call (owned_by k.past d) d) k.calls); waiting = filter (λ c. not (owned_by k.past d (unwrap_or (service_of_call k.past c) 0))) k.waiting; objects = (each_record (object_record_after (entry d t (act.End why) r) k.parts (map (ended_call (owned_by k.past d) d) k.calls)) k.objects); extents = each_record (λ x item. record item { bytes = if in_use_by k.parts (each_record (object_record_after (entry d t (act.End why) r) k.parts (map (ended_call (owned_by k.past d) d) k.calls)) k.objects) x then item.bytes else None }) k.extents; taken = each_from (λ i used. used && not (lies_in_one (freed_runs s (entry d t (act.End why) r) k.past) i)) 0 k.taken })
 unfolding is_birth makes_domain ended_by ended_by_act is_export exported_interface received_service received_parcel bound_by_act is_call asked_by queued_as is_take_of is_resume_of answered_by_act new_parts received_objects objects_in is_drop_of ended_object is_allocation makes_extent is_done new_threads is_choice
 stands_after_end s k d t why r i names h n q v =
     record {
@@ -524,14 +524,14 @@ stands_after_end s k d t why r i names h n q v =
       waiting = ap (filter (λ c. not (owned_by k.past d (unwrap_or (service_of_call k.past c) 0)))) h.waiting ∙ sym (waiting_after_end k.past (entry d t (act.End why) r) d (record { why = why; ends = refl; call = refl; take = λ x. refl; resume = λ x. refl; answer = λ x. refl }));
       parts = keeps_parts s k (entry d t (act.End why) r) h n refl;
       objects = (objects_stepped s k (entry d t (act.End why) r) h n (map (ended_call (owned_by k.past d) d) k.calls) refl (ap (map (ended_call (owned_by k.past d) d)) h.calls ∙ sym (calls_after_end s k.past (entry d t (act.End why) r) d h.admitted (record { why = why; ends = refl; call = refl; take = λ x. refl; resume = λ x. refl; answer = λ x. refl }))));
-      extents = extents_stepped s k (entry d t (act.End why) r) h n k.parts (each_record (object_record_after (entry d t (act.End why) r) (length k.domains) k.parts (map (ended_call (owned_by k.past d) d) k.calls)) k.objects) refl (and_false (is_done r)) (keeps_parts s k (entry d t (act.End why) r) h n refl) (objects_stepped s k (entry d t (act.End why) r) h n (map (ended_call (owned_by k.past d) d) k.calls) refl (ap (map (ended_call (owned_by k.past d) d)) h.calls ∙ sym (calls_after_end s k.past (entry d t (act.End why) r) d h.admitted (record { why = why; ends = refl; call = refl; take = λ x. refl; resume = λ x. refl; answer = λ x. refl }))));
+      extents = extents_stepped s k (entry d t (act.End why) r) h n k.parts (each_record (object_record_after (entry d t (act.End why) r) k.parts (map (ended_call (owned_by k.past d) d) k.calls)) k.objects) refl (and_false (is_done r)) (keeps_parts s k (entry d t (act.End why) r) h n refl) (objects_stepped s k (entry d t (act.End why) r) h n (map (ended_call (owned_by k.past d) d) k.calls) refl (ap (map (ended_call (owned_by k.past d) d)) h.calls ∙ sym (calls_after_end s k.past (entry d t (act.End why) r) d h.admitted (record { why = why; ends = refl; call = refl; take = λ x. refl; resume = λ x. refl; answer = λ x. refl }))));
       taken = taken_freed s k (entry d t (act.End why) r) h n refl refl;
     }
 
 -- a done kill
 pub stands_after_kill : (s : System) (k : Kept) (d t : ℕ) (j : ℤ) (i : ℕ) (names : List (List ℕ × ℕ)) → StandsFor s k → IsNext s k.past (entry d t (act.Kill j) reply.Done) → (not_below_zero j) ≡ i + 1 →
     ((x : List ℕ) → named_service names x ≡ option_and_then (λ y. if is_number (owner_of k.past y) (not_below_zero j) then None else Some y) (named_service k.names x)) →
-    StandsFor s (record k { past = entry d t (act.Kill j) reply.Done ∷ k.past; domains = changed_at i (λ item. record item { ended = Some reason.Killed }) k.domains; services = each_record (λ nth item. record item { holders = portals_after (entry d t (act.Kill j) reply.Done) (length k.domains) nth item.holders }) k.services; names = names; calls = (map (ended_call (owned_by k.past (not_below_zero j)) (not_below_zero j)) k.calls); waiting = filter (λ c. not (owned_by k.past (not_below_zero j) (unwrap_or (service_of_call k.past c) 0))) k.waiting; objects = (each_record (object_record_after (entry d t (act.Kill j) reply.Done) (length k.domains) k.parts (map (ended_call (owned_by k.past (not_below_zero j)) (not_below_zero j)) k.calls)) k.objects); extents = each_record (λ x item. record item { bytes = if in_use_by k.parts (each_record (object_record_after (entry d t (act.Kill j) reply.Done) (length k.domains) k.parts (map (ended_call (owned_by k.past (not_below_zero j)) (not_below_zero j)) k.calls)) k.objects) x then item.bytes else None }) k.extents; taken = each_from (λ i used. used && not (lies_in_one (freed_runs s (entry d t (act.Kill j) reply.Done) k.past) i)) 0 k.taken })
+    StandsFor s (record k { past = entry d t (act.Kill j) reply.Done ∷ k.past; domains = changed_at i (λ item. record item { ended = Some reason.Killed }) k.domains; services = each_record (λ nth item. record item { holders = portals_after (entry d t (act.Kill j) reply.Done) nth item.holders }) k.services; names = names; calls = (map (ended_call (owned_by k.past (not_below_zero j)) (not_below_zero j)) k.calls); waiting = filter (λ c. not (owned_by k.past (not_below_zero j) (unwrap_or (service_of_call k.past c) 0))) k.waiting; objects = (each_record (object_record_after (entry d t (act.Kill j) reply.Done) k.parts (map (ended_call (owned_by k.past (not_below_zero j)) (not_below_zero j)) k.calls)) k.objects); extents = each_record (λ x item. record item { bytes = if in_use_by k.parts (each_record (object_record_after (entry d t (act.Kill j) reply.Done) k.parts (map (ended_call (owned_by k.past (not_below_zero j)) (not_below_zero j)) k.calls)) k.objects) x then item.bytes else None }) k.extents; taken = each_from (λ i used. used && not (lies_in_one (freed_runs s (entry d t (act.Kill j) reply.Done) k.past) i)) 0 k.taken })
 unfolding is_birth makes_domain ended_by ended_by_act is_export exported_interface received_service received_parcel bound_by_act is_call asked_by queued_as is_take_of is_resume_of answered_by_act new_parts received_objects objects_in is_drop_of ended_object is_allocation makes_extent is_done new_threads is_choice
 stands_after_kill s k d t j i names h n q v =
     record {
@@ -544,6 +544,6 @@ stands_after_kill s k d t j i names h n q v =
       waiting = ap (filter (λ c. not (owned_by k.past (not_below_zero j) (unwrap_or (service_of_call k.past c) 0)))) h.waiting ∙ sym (waiting_after_end k.past (entry d t (act.Kill j) reply.Done) (not_below_zero j) (record { why = reason.Killed; ends = refl; call = refl; take = λ x. refl; resume = λ x. refl; answer = λ x. refl }));
       parts = keeps_parts s k (entry d t (act.Kill j) reply.Done) h n refl;
       objects = (objects_stepped s k (entry d t (act.Kill j) reply.Done) h n (map (ended_call (owned_by k.past (not_below_zero j)) (not_below_zero j)) k.calls) refl (ap (map (ended_call (owned_by k.past (not_below_zero j)) (not_below_zero j))) h.calls ∙ sym (calls_after_end s k.past (entry d t (act.Kill j) reply.Done) (not_below_zero j) h.admitted (record { why = reason.Killed; ends = refl; call = refl; take = λ x. refl; resume = λ x. refl; answer = λ x. refl }))));
-      extents = extents_stepped s k (entry d t (act.Kill j) reply.Done) h n k.parts (each_record (object_record_after (entry d t (act.Kill j) reply.Done) (length k.domains) k.parts (map (ended_call (owned_by k.past (not_below_zero j)) (not_below_zero j)) k.calls)) k.objects) refl refl (keeps_parts s k (entry d t (act.Kill j) reply.Done) h n refl) (objects_stepped s k (entry d t (act.Kill j) reply.Done) h n (map (ended_call (owned_by k.past (not_below_zero j)) (not_below_zero j)) k.calls) refl (ap (map (ended_call (owned_by k.past (not_below_zero j)) (not_below_zero j))) h.calls ∙ sym (calls_after_end s k.past (entry d t (act.Kill j) reply.Done) (not_below_zero j) h.admitted (record { why = reason.Killed; ends = refl; call = refl; take = λ x. refl; resume = λ x. refl; answer = λ x. refl }))));
+      extents = extents_stepped s k (entry d t (act.Kill j) reply.Done) h n k.parts (each_record (object_record_after (entry d t (act.Kill j) reply.Done) k.parts (map (ended_call (owned_by k.past (not_below_zero j)) (not_below_zero j)) k.calls)) k.objects) refl refl (keeps_parts s k (entry d t (act.Kill j) reply.Done) h n refl) (objects_stepped s k (entry d t (act.Kill j) reply.Done) h n (map (ended_call (owned_by k.past (not_below_zero j)) (not_below_zero j)) k.calls) refl (ap (map (ended_call (owned_by k.past (not_below_zero j)) (not_below_zero j))) h.calls ∙ sym (calls_after_end s k.past (entry d t (act.Kill j) reply.Done) (not_below_zero j) h.admitted (record { why = reason.Killed; ends = refl; call = refl; take = λ x. refl; resume = λ x. refl; answer = λ x. refl }))));
       taken = taken_freed s k (entry d t (act.Kill j) reply.Done) h n refl refl;
     }

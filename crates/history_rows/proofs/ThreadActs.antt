@@ -22,11 +22,10 @@ use Rattle.jx_model.specs.Tables.{ThreadRecord, thread_record, thread_records}
 use Rattle.jx_model.specs.Legal.{IsNext, IsAdmittedPast}
 use Rattle.jx_base.proofs.BasicLaws.{eq_of}
 use Rattle.jx_model.proofs.Acting.{acting_cases, domain_cases, acting_within, running_runs}
-use Rattle.history_rows.proofs.Records.{is_that, records_get, get_range}
+use Rattle.history_rows.proofs.Records.{is_that, records_get, get_range, changed_at, set_changed}
 use Rattle.history_rows.proofs.Actors.{IsMade, live_made, actor_live}
 use Rattle.history_rows.proofs.ThreadRecords.{thread_record_after, service_of_thread, runs_as, leaves_thread, adds_none, threads_of_own, idle_record}
 use Rattle.history_rows.proofs.ThreadTable.{thread_table, threads_after, threads_kept, threads_after_birth, threads_added, records_left, first_records}
-use Rattle.history_rows.proofs.Every.{changed_at, set_changed}
 
 -- ---- the acting thread
 

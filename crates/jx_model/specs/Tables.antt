@@ -1,5 +1,5 @@
 -- What a nucleus keeps, as plain lists read off its past. Thing number n stands at place n - 1.
-use Rattle.std.specs.Prelude.{◌≡◌, ℕ, Bool, List, [], ◌∷◌, map, filter, Option, Some, None, if◌then◌else◌}
+use Rattle.std.specs.Prelude.{◌≡◌, ℕ, Bool, List, [], ◌∷◌, map, Option, Some, None, if◌then◌else◌}
 use Rattle.std.specs.List.{range_with_len}
 use Rattle.std.specs.Str.{bytes_eq}
 use Rattle.jx_base.specs.declared.ids.CallId.{CallId}
@@ -10,14 +10,14 @@ use Rattle.jx_base.specs.declared.states.ThreadState.{ThreadState}
 use Rattle.jx_base.specs.declared.states.ThreadState.TheVariants as thread
 use Rattle.jx_base.specs.declared.program.System.{System}
 use Rattle.jx_base.specs.Basics.{up_to}
-use Rattle.program_model.specs.Limits.{granule_limit}
+use Rattle.program_model.specs.Limits.{domain_limit, granule_limit}
 use Rattle.jx_base.specs.Histories.{Past}
 use Rattle.jx_model.specs.Domains.{domains_made, template_of, creator_of, heap_place_of, end_reason}
 use Rattle.jx_model.specs.Threads.{thread_state, threads_of, served_call}
 use Rattle.jx_model.specs.Portals.{services_made, owner_of, interface_of, holds_portal, bound_service}
 use Rattle.jx_model.specs.Calls.{calls_made, call_state, call_entry, waiting_calls, service_of_call, caller_of}
 use Rattle.jx_model.specs.MemoryObjects.{Part, objects_of, objects_made, is_valid, extents_made, allocation_of, allocated_bytes}
-use Rattle.jx_model.specs.Holding.{holders, riding_count, carried, is_extent_in_use}
+use Rattle.jx_model.specs.Holding.{holds_object, riding_count, carried, is_extent_in_use}
 use Rattle.jx_model.specs.Granules.{Run, extent_run, is_used_granule}
 use Rattle.jx_model.specs.Bytes.{byte_at}
 use Rattle.jx_model.specs.Legal.{IsAdmittedPast}
@@ -59,24 +59,28 @@ thread_records past d = map (thread_record past d) (threads_of past d)
 
 -- ---- services
 
--- a service: its owner, its interface, and the domains that hold a portal to it
+-- a service: its owner, its interface, and for each number of a domain whether it holds a portal
 pub record ServiceRecord : Type 0 where
   pub owner : ℕ
   pub interface : Option ClassId
-  pub holders : List ℕ
+  pub holders : List Bool
+
+-- for each number of a domain, whether that domain holds a portal to the service
+abbrev pub portal_flags : System → Past → ℕ → List Bool
+portal_flags s past k = map (λ d. holds_portal past d k) (up_to (domain_limit s))
 
 -- a service
-unfoldable pub service_record : Past → ℕ → ServiceRecord
-service_record past k =
+unfoldable pub service_record : System → Past → ℕ → ServiceRecord
+service_record s past k =
     record {
       owner = unwrap_or (owner_of past k) 0;
       interface = interface_of past k;
-      holders = filter (λ d. holds_portal past d k) (up_to (domains_made past));
+      holders = portal_flags s past k;
     }
 
 -- all services
-unfoldable pub service_records : Past → List ServiceRecord
-service_records past = map (service_record past) (up_to (services_made past))
+unfoldable pub service_records : System → Past → List ServiceRecord
+service_records s past = map (service_record s past) (up_to (services_made past))
 
 -- the service that a list of names has for the name, the first that stands there
 unfoldable pub named_service : List (List ℕ × ℕ) → List ℕ → Option ℕ
@@ -114,19 +118,25 @@ call_records past = map (call_record past) (up_to (calls_made past))
 
 -- ---- memory objects
 
--- an object: whether it is valid, the domains that hold it, and how many calls carry it
+-- an object: whether it is valid, for each number of a domain whether it holds it, and how many
+-- calls carry it
 pub record ObjectRecord : Type 0 where
   pub valid : Bool
-  pub holders : List ℕ
+  pub holders : List Bool
   pub riding : ℕ
 
+-- for each number of a domain, whether that domain holds the object
+abbrev pub holder_flags : System → Past → ℕ → List Bool
+holder_flags s past m = map (λ d. holds_object past d m) (up_to (domain_limit s))
+
 -- an object
-unfoldable pub object_record : Past → ℕ → ObjectRecord
-object_record past m = record { valid = is_valid past m; holders = holders past m; riding = riding_count past m }
+unfoldable pub object_record : System → Past → ℕ → ObjectRecord
+object_record s past m =
+    record { valid = is_valid past m; holders = holder_flags s past m; riding = riding_count past m }
 
 -- all objects
-unfoldable pub object_records : Past → List ObjectRecord
-object_records past = map (object_record past) (up_to (objects_made past))
+unfoldable pub object_records : System → Past → List ObjectRecord
+object_records s past = map (object_record s past) (up_to (objects_made past))
 
 -- ---- extents and granules
 
@@ -176,12 +186,12 @@ pub record StandsFor (s : System) (k : Kept) : Type 0 where
   pub admitted : IsAdmittedPast s k.past
   pub domains : k.domains ≡ domain_records s k.past
   pub threads : k.threads ≡ map (thread_records k.past) (up_to (domains_made k.past))
-  pub services : k.services ≡ service_records k.past
+  pub services : k.services ≡ service_records s k.past
   pub names : (name : List ℕ) → named_service k.names name ≡ bound_service k.past name
   pub calls : k.calls ≡ call_records k.past
   pub waiting : k.waiting ≡ waiting_calls k.past
   pub parts : k.parts ≡ objects_of k.past
-  pub objects : k.objects ≡ object_records k.past
+  pub objects : k.objects ≡ object_records s k.past
   pub extents : k.extents ≡ extent_records k.past
   pub taken : k.taken ≡ granule_flags s k.past
 
