@@ -5,12 +5,13 @@ use Rattle.jx_base.specs.declared.program.System.{System}
 use Rattle.jx_base.specs.Basics.{up_to}
 use Rattle.program_model.specs.Limits.{granule_limit}
 use Rattle.jx_base.specs.Histories.{count_where}
-use Rattle.jx_model.specs.Portals.{bound_service, last_bound}
+use Rattle.jx_model.specs.Portals.{last_bound}
+use Rattle.jx_model.specs.Journal.{words_of}
+use Rattle.jx_model.specs.Permits.{is_over}
 use Rattle.jx_model.specs.Calls.{waiting_calls}
 use Rattle.jx_model.specs.MemoryObjects.{objects_of, objects_made}
 use Rattle.jx_model.specs.Granules.{heap_runs, extent_runs, used_runs, lies_in_one, is_used_granule}
 use Rattle.jx_model.specs.Tables.{Kept, StandsFor, domain_records, service_records, named_service, call_records, object_records, extent_records, granule_flags}
-use Rattle.std.specs.Option.{option_and_then}
 
 no_flags : (f : ℕ → Bool) (a n : ℕ) → ((g : ℕ) → f g ≡ false) → map f (range_with_len a n) ≡ replicate n false
 no_flags f a zero h = refl
@@ -21,6 +22,9 @@ abbrev pub first_kept : System → Kept
 first_kept s =
     record {
       past = [];
+      over = false;
+      words = 0;
+      creates = 0;
       domains = [];
       threads = [];
       services = [];
@@ -35,10 +39,13 @@ first_kept s =
 
 -- it stands for the past without entries
 pub stands_at_start : (s : System) → StandsFor s (first_kept s)
-unfolding domain_records service_records named_service bound_service last_bound call_records waiting_calls objects_of object_records objects_made extent_records granule_flags is_used_granule lies_in_one used_runs heap_runs extent_runs count_where up_to
+unfolding is_over words_of domain_records service_records named_service last_bound call_records waiting_calls objects_of object_records objects_made extent_records granule_flags is_used_granule lies_in_one used_runs heap_runs extent_runs count_where up_to
 stands_at_start s =
     record {
       admitted = tt;
+      over = refl;
+      words = refl;
+      creates = refl;
       domains = refl;
       threads = refl;
       services = refl;

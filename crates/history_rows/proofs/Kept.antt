@@ -1,5 +1,5 @@
 -- What stays of all that is kept, by what an entry doesn't do.
-use Rattle.std.proofs.Common.{◌≡◌, refl, sym, ◌∙◌, ap, ℕ, ◌+◌, Bool, true, false, ◌&&◌, ◌||◌, List, [], ◌∷◌, ◌++◌, Option, None, is_some, ◌⊎◌, inl, inr, append-nil}
+use Rattle.std.proofs.Common.{◌≡◌, refl, sym, ◌∙◌, ap, ℕ, ◌+◌, Bool, true, false, ◌&&◌, ◌||◌, List, [], ◌∷◌, ◌++◌, Option, None, is_some, if◌then◌else◌, ◌⊎◌, inl, inr, append-nil}
 use Rattle.jx_base.specs.declared.act.Act.{Act}
 use Rattle.jx_base.specs.declared.act.Act.TheVariants as act
 use Rattle.jx_base.specs.declared.act.Reply.{Reply}
@@ -10,14 +10,16 @@ use Rattle.jx_base.specs.declared.value.Parcel.{Parcel}
 use Rattle.jx_base.specs.declared.program.System.{System}
 use Rattle.jx_base.specs.Basics.{contains_number, is_number, passes}
 use Rattle.program_model.specs.ParcelParts.{parcel_portals}
-use Rattle.jx_base.specs.Histories.{Past, is_done, is_own}
+use Rattle.jx_base.specs.Histories.{Past, is_done, is_own, count_where}
 use Rattle.jx_model.specs.Domains.{is_birth, makes_domain, ended_by, ended_by_act}
-use Rattle.jx_model.specs.Portals.{is_export, exported_interface, received_service, received_parcel, gives_portal, bound_by_act, bound_service}
+use Rattle.jx_model.specs.Portals.{is_export, exported_interface, received_service, received_parcel, gives_portal, bound_by_act}
 use Rattle.jx_model.specs.Calls.{is_call, asked_by, queued_as, is_take_of, is_resume_of, answered_by_act, waiting_calls}
 use Rattle.jx_model.specs.MemoryObjects.{Part, objects_of, new_parts, extents_made, is_allocation, makes_extent, ended_object}
 use Rattle.jx_model.specs.Holding.{received_objects, objects_in, is_drop_of}
+use Rattle.jx_model.specs.Journal.{words_of, entry_words}
+use Rattle.jx_model.specs.Permits.{is_over, is_ending, creates_made, is_create_entry}
 use Rattle.jx_model.specs.Replies.{reply_to}
-use Rattle.jx_model.specs.Tables.{Kept, StandsFor, ThreadRecord, domain_records, service_records, named_service, call_records, object_records, extent_records, granule_flags}
+use Rattle.jx_model.specs.Tables.{Kept, StandsFor, ThreadRecord, domain_records, service_records, call_records, object_records, extent_records, granule_flags}
 use Rattle.jx_model.specs.Legal.{IsNext, IsAdmittedPast}
 use Rattle.jx_base.proofs.BasicLaws.{ap2, and_false}
 use Rattle.history_rows.proofs.DomainRecords.{domains_same}
@@ -25,7 +27,8 @@ use Rattle.history_rows.proofs.ThreadTable.{thread_table}
 use Rattle.history_rows.proofs.CallActs.{TouchesNoCall, calls_untouched, waiting_untouched}
 use Rattle.history_rows.proofs.Holders.{gives_object, drops_object}
 use Rattle.history_rows.proofs.ObjectRecords.{objects_same, object_record_same}
-use Rattle.history_rows.proofs.ServiceRecords.{services_kept, portals_same, name_same}
+use Rattle.history_rows.proofs.ServiceRecords.{services_kept, portals_same}
+use Rattle.history_rows.proofs.Names.{HasLastBinds, binds_same}
 use Rattle.jx_model.proofs.Exported.{exported_stays}
 use Rattle.history_rows.proofs.ByteRecords.{writes}
 use Rattle.history_rows.proofs.ExtentRecords.{extents_untouched, granules_untouched}
@@ -71,6 +74,34 @@ no_drop e h d m = turn (is_own d e) (is_done e.reply) (is_drop_of m e.act) ∙ a
     turn true y z = refl
     turn false y z = refl
 
+-- ---- what each entry changes
+
+-- what is kept with the entry, before what its act does to the tables
+abbrev pub with_entry : Kept → Entry → Kept
+with_entry k e =
+    record k {
+      past = e ∷ k.past;
+      over = is_ending e.act || k.over;
+      words = k.words + entry_words e;
+      creates = k.creates + (if is_create_entry e then 1 else 0);
+    }
+
+module _ (s : System) (k : Kept) (e : Entry) (h : StandsFor s k) (n : IsNext s k.past e) where
+  -- whether the run is over
+  pub over_after : (is_ending e.act || k.over) ≡ is_over (e ∷ k.past)
+  unfolding is_over
+  over_after = ap (λ (b : Bool). is_ending e.act || b) h.over
+
+  -- the words
+  pub words_after : k.words + entry_words e ≡ words_of (e ∷ k.past)
+  unfolding words_of
+  words_after = ap (λ (m : ℕ). m + entry_words e) h.words
+
+  -- the creates
+  pub creates_after : k.creates + (if is_create_entry e then 1 else 0) ≡ creates_made (e ∷ k.past)
+  unfolding count_where
+  creates_after = ap (λ (m : ℕ). m + (if is_create_entry e then 1 else 0)) h.creates
+
 -- ---- what stays
 
 module _ (s : System) (k : Kept) (e : Entry) (h : StandsFor s k) (n : IsNext s k.past e) where
@@ -87,8 +118,8 @@ module _ (s : System) (k : Kept) (e : Entry) (h : StandsFor s k) (n : IsNext s k
   keeps_services v z = h.services ∙ sym (services_kept s e k.past v.export (λ j l u. portals_same s e k.past j n (exported_stays e k.past j (record { low = l; high = u })) z (λ d. no_portal e v d j)))
 
   -- the names
-  pub keeps_names : ((name : List ℕ) → bound_by_act name e.act e.reply ≡ None) → ended_by e ≡ None → (name : List ℕ) → named_service k.names name ≡ bound_service (e ∷ k.past) name
-  keeps_names b z name = h.names name ∙ sym (name_same s e k.past name h.admitted (b name) z)
+  pub keeps_names : ((name : List ℕ) → bound_by_act name e.act e.reply ≡ None) → HasLastBinds k.names (e ∷ k.past)
+  keeps_names b = binds_same k.names e k.past h.names b
 
   -- the calls
   pub keeps_calls : TouchesNoCall e → k.calls ≡ call_records (e ∷ k.past)
@@ -126,14 +157,17 @@ pub record IsPlain (past : Past) (e : Entry) : Type 0 where
 
 -- it leaves all that is kept, but for the threads
 pub stands_after_plain : (s : System) (k : Kept) (e : Entry) (threads : List (List ThreadRecord)) → StandsFor s k → IsNext s k.past e → IsPlain k.past e → threads ≡ thread_table (e ∷ k.past) →
-    StandsFor s (record k { past = e ∷ k.past; threads = threads })
+    StandsFor s (record (with_entry k e) { threads = threads })
 stands_after_plain s k e threads h n p t =
     record {
       admitted = (n, h.admitted);
+      over = over_after s k e h n;
+      words = words_after s k e h n;
+      creates = creates_after s k e h n;
       domains = keeps_domains s k e h n p.life;
       threads = t;
       services = keeps_services s k e h n p.services p.life.ends;
-      names = keeps_names s k e h n p.services.bind p.life.ends;
+      names = keeps_names s k e h n p.services.bind;
       calls = keeps_calls s k e h n p.calls;
       waiting = keeps_waiting s k e h n p.calls;
       parts = keeps_parts s k e h n p.objects.parts;

@@ -1,16 +1,10 @@
 -- The names as a list of all binds, the newest first: a bind adds one, and nothing else changes it.
-use Rattle.std.proofs.Common.{◌≡◌, refl, sym, ◌∙◌, ap, ℕ, Bool, true, false, List, ◌∷◌, Option, Some, None, if◌then◌else◌}
+use Rattle.std.proofs.Common.{◌≡◌, sym, ◌∙◌, ap, ℕ, Bool, true, false, List, ◌∷◌, Option, Some, None, if◌then◌else◌, refl}
 use Rattle.std.specs.Str.{bytes_eq}
 use Rattle.jx_base.specs.declared.act.Entry.{Entry}
-use Rattle.jx_base.specs.declared.program.System.{System}
-use Rattle.jx_base.specs.Basics.{passes}
 use Rattle.jx_base.specs.Histories.{Past}
-use Rattle.jx_model.specs.Portals.{bound_by_act, last_bound, bound_service, has_live_owner}
-use Rattle.jx_model.specs.Tables.{named_service, domain_records, service_records}
-use Rattle.history_rows.proofs.Permission.{lives_in}
-use Rattle.history_rows.proofs.Acting.{owner_in}
-use Rattle.history_rows.proofs.RecordReads.{live_owner_by_records}
-use Rattle.std.specs.Option.{option_and_then}
+use Rattle.jx_model.specs.Portals.{bound_by_act, last_bound}
+use Rattle.jx_model.specs.Tables.{named_service}
 
 -- the list has the last bind of each name
 abbrev pub HasLastBinds : List (List ℕ × ℕ) → Past → Type 0
@@ -30,14 +24,3 @@ binds_after_bind names e past name k h b x =
 pub binds_same : (names : List (List ℕ × ℕ)) (e : Entry) (past : Past) → HasLastBinds names past → ((x : List ℕ) → bound_by_act x e.act e.reply ≡ None) → HasLastBinds names (e ∷ past)
 unfolding last_bound
 binds_same names e past h b x = h x ∙ sym (ap (λ (o : Option ℕ). elim o as (λ _. Option ℕ) [ Some j ↦ Some j | None ↦ last_bound past x ]) (b x))
-
--- the list and the records say what a name is bound to
-pub bound_by_binds : (s : System) (names : List (List ℕ × ℕ)) (past : Past) (name : List ℕ) → HasLastBinds names past →
-    bound_service past name ≡ option_and_then (λ k. if passes (lives_in (domain_records s past)) (owner_in (service_records s past) k) then Some k else None) (named_service names name)
-unfolding bound_service
-bound_by_binds s names past name h =
-    by (last_bound past name) ∙ ap (λ (o : Option ℕ). option_and_then (λ k. if passes (lives_in (domain_records s past)) (owner_in (service_records s past) k) then Some k else None) o) (sym (h name))
-  where
-    by : (o : Option ℕ) → option_and_then (λ k. if has_live_owner past k then Some k else None) o ≡ option_and_then (λ k. if passes (lives_in (domain_records s past)) (owner_in (service_records s past) k) then Some k else None) o
-    by None = refl
-    by (Some k) = ap (λ (b : Bool). if b then Some k else None) (live_owner_by_records s past k)

@@ -12,10 +12,10 @@ use Rattle.jx_model.specs.Permits.{is_choice}
 use Rattle.jx_model.specs.Replies.{reply_to}
 use Rattle.jx_model.specs.Tables.{Kept, StandsFor}
 use Rattle.jx_model.specs.Legal.{IsNext}
-use Rattle.history_rows.proofs.ThreadRecords.{thread_record_after, service_of_thread, leaves_thread}
+use Rattle.history_rows.proofs.ThreadRecords.{thread_record_after, leaves_thread}
 use Rattle.history_rows.proofs.ThreadActs.{own_changed, threads_stepped, threads_left}
 use Rattle.history_rows.proofs.CallActs.{entry}
-use Rattle.history_rows.proofs.Kept.{IsPlain, stands_after_plain, plain_act, plain_lookup, plain_refusal, is_plain_act, touches_calls}
+use Rattle.history_rows.proofs.Kept.{with_entry, IsPlain, stands_after_plain, plain_act, plain_lookup, plain_refusal, is_plain_act, touches_calls}
 
 adds_no_threads : (a : Act) (r : Reply) → is_plain_act a ≡ true → new_threads a r ≡ []
 unfolding new_threads
@@ -24,21 +24,21 @@ adds_no_threads _ r h = refl
 
 -- a print, go, size, get, yield or end of a thread, a quiet or a halt changes the record of its thread alone
 pub stands_after_plain_act : (s : System) (k : Kept) (d t : ℕ) (a : Act) (r : Reply) → StandsFor s k → IsNext s k.past (entry d t a r) → is_plain_act a ≡ true →
-    StandsFor s (record k { past = entry d t a r ∷ k.past; threads = own_changed d t (λ item. thread_record_after (service_of_thread k.past d t) item a r) k.threads })
+    StandsFor s (record (with_entry k (entry d t a r)) { threads = own_changed d t (λ item. thread_record_after item a r) k.threads })
 stands_after_plain_act s k d t a r h n p =
     let q : IsPlain k.past (entry d t a r) = plain_act k.past d t a r p in
     stands_after_plain s k (entry d t a r) _ h n q
-    (ap (own_changed d t (λ item. thread_record_after (service_of_thread k.past d t) item a r)) h.threads ∙ sym (threads_stepped s k.past (entry d t a r) n q.life.birth (adds_no_threads a r p)))
+    (ap (own_changed d t (λ item. thread_record_after item a r)) h.threads ∙ sym (threads_stepped s k.past (entry d t a r) n q.life.birth (adds_no_threads a r p)))
 
 -- one that leaves its thread running changes nothing
 pub stands_after_reading : (s : System) (k : Kept) (d t : ℕ) (a : Act) (r : Reply) → StandsFor s k → IsNext s k.past (entry d t a r) → is_plain_act a ≡ true → is_choice a ≡ false → leaves_thread a r ≡ true →
-    StandsFor s (record k { past = entry d t a r ∷ k.past })
+    StandsFor s (with_entry k (entry d t a r))
 stands_after_reading s k d t a r h n p c l =
     let q : IsPlain k.past (entry d t a r) = plain_act k.past d t a r p in
     stands_after_plain s k (entry d t a r) k.threads h n q (h.threads ∙ sym (threads_left s k.past (entry d t a r) n q.life.birth (adds_no_threads a r p) c l))
 
 -- a lookup that finds no name changes nothing
-pub stands_after_no_name : (s : System) (k : Kept) (d t : ℕ) (name : List ℕ) → StandsFor s k → IsNext s k.past (entry d t (act.Lookup name) reply.NoName) → StandsFor s (record k { past = entry d t (act.Lookup name) reply.NoName ∷ k.past })
+pub stands_after_no_name : (s : System) (k : Kept) (d t : ℕ) (name : List ℕ) → StandsFor s k → IsNext s k.past (entry d t (act.Lookup name) reply.NoName) → StandsFor s (with_entry k (entry d t (act.Lookup name) reply.NoName))
 unfolding new_threads is_choice
 stands_after_no_name s k d t name h n =
     let q : IsPlain k.past (entry d t (act.Lookup name) reply.NoName) = plain_lookup k.past d t name in
@@ -61,7 +61,7 @@ refused_runs s past d (act.EndThread c) r h q = cc
 refused_runs s past d _ r h q = (refl, refl)
 
 -- a refused act changes nothing, but for a return or throw
-pub stands_after_refusal : (s : System) (k : Kept) (d t : ℕ) (a : Act) (r : Refusal) → StandsFor s k → IsNext s k.past (entry d t a (reply.Refused r)) → touches_calls a ≡ false → StandsFor s (record k { past = entry d t a (reply.Refused r) ∷ k.past })
+pub stands_after_refusal : (s : System) (k : Kept) (d t : ℕ) (a : Act) (r : Refusal) → StandsFor s k → IsNext s k.past (entry d t a (reply.Refused r)) → touches_calls a ≡ false → StandsFor s (with_entry k (entry d t a (reply.Refused r)))
 stands_after_refusal s k d t a r h n p =
     let q : IsPlain k.past (entry d t a (reply.Refused r)) = plain_refusal s k.past (entry d t a (reply.Refused r)) r n refl p in
     let w = refused_runs s k.past d a r n.reply p in

@@ -14,13 +14,14 @@ use Rattle.jx_base.specs.Basics.{up_to, numbered, passes, contains_number}
 use Rattle.program_model.specs.Limits.{domain_limit, granule_limit}
 use Rattle.jx_base.specs.Histories.{Past, nth_entry, count_where}
 use Rattle.jx_model.specs.Domains.{is_live, is_birth, makes_domain, domains_made, birth_of, heap_place_of, creator_of, template_of, named_template}
-use Rattle.jx_model.specs.Portals.{services_made, owner_of, interface_of, exported_interface, has_live_owner, keeps_portal, holds_portal}
+use Rattle.jx_model.specs.Portals.{services_made, owner_of, interface_of, exported_interface, has_live_owner, last_bound, bound_service, keeps_portal, holds_portal}
 use Rattle.jx_model.specs.Calls.{calls_made, caller_of, has_live_caller}
 use Rattle.jx_model.specs.MemoryObjects.{objects_of, objects_made, is_valid, ends_one_of, lineage_of}
 use Rattle.jx_model.specs.Holding.{holds_object, is_extent_in_use}
 use Rattle.jx_model.specs.Granules.{Run, heap_run, heap_granules, is_free_run, least_free, first_fit, is_used_granule, used_runs, lies_in_one}
 use Rattle.jx_model.specs.Replies.{reply_to}
-use Rattle.jx_model.specs.Tables.{domain_record, domain_records, ServiceRecord, service_record, service_records, CallRecord, call_record, call_records, ObjectRecord, object_record, object_records, granule_flags, extent_record, extent_bytes}
+use Rattle.jx_model.specs.Tables.{domain_record, domain_records, ServiceRecord, service_record, service_records, CallRecord, call_record, call_records, ObjectRecord, object_record, object_records, granule_flags, extent_record, extent_bytes, named_service}
+use Rattle.history_rows.proofs.Names.{HasLastBinds}
 use Rattle.jx_model.specs.Legal.{IsAdmittedPast}
 use Rattle.jx_base.proofs.BasicLaws.{ap2, both}
 use Rattle.jx_base.proofs.NthEntries.{nth_passes, nth_there, nth_none}
@@ -128,6 +129,17 @@ passes_same (Some k) f g h = h k
 pub live_owner_by_records : (s : System) (past : Past) (k : ℕ) → has_live_owner past k ≡ passes (lives_in (domain_records s past)) (owner_in (service_records s past) k)
 unfolding has_live_owner
 live_owner_by_records s past k = passes_same (owner_of past k) (is_live past) (lives_in (domain_records s past)) (lives_by_records s past) ∙ ap (passes (lives_in (domain_records s past))) (owner_by_records s past k)
+
+-- the list and the records say what a name is bound to
+pub bound_by_binds : (s : System) (names : List (List ℕ × ℕ)) (past : Past) (name : List ℕ) → HasLastBinds names past →
+    bound_service past name ≡ option_and_then (λ k. if passes (lives_in (domain_records s past)) (owner_in (service_records s past) k) then Some k else None) (named_service names name)
+unfolding bound_service
+bound_by_binds s names past name h =
+    by (last_bound past name) ∙ ap (λ (o : Option ℕ). option_and_then (λ k. if passes (lives_in (domain_records s past)) (owner_in (service_records s past) k) then Some k else None) o) (sym (h name))
+  where
+    by : (o : Option ℕ) → option_and_then (λ k. if has_live_owner past k then Some k else None) o ≡ option_and_then (λ k. if passes (lives_in (domain_records s past)) (owner_in (service_records s past) k) then Some k else None) o
+    by None = refl
+    by (Some k) = ap (λ (b : Bool). if b then Some k else None) (live_owner_by_records s past k)
 
 -- the test of a record by its number, where what isn't made fails
 pub test_by_number : {A : Type 0} (f : ℕ → A) (p : A → Bool) (n c : ℕ) (b : Bool) → (1 ≤ c → c ≤ n → b ≡ p (f c)) → ((c ≡ 0) ⊎ (n < c) → b ≡ false) → b ≡ passes p (numbered (map f (up_to n)) c)

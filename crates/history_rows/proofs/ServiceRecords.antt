@@ -200,15 +200,6 @@ owner_made s (e ∷ past) k d a h = by (is_export e && (k == services_made past 
         made_stays e past d (subst (IsMade past) z (live_made past e.domain.0 (acts_live s past e.domain.0 e.thread.0 e.act x.0 (x.1 s past) a.0.thread)))
     by false q h again = made_stays e past d (again h)
 
--- whether the owner of a made service lives after an entry
-pub live_owner_after : (s : System) (e : Entry) (past : Past) (k : ℕ) → IsAdmittedPast s past → k ≤ services_made past → has_live_owner (e ∷ past) k ≡ (has_live_owner past k && not (ends_domain (ended_by e) (owner_of past k)))
-unfolding has_live_owner passes
-live_owner_after s e past k a u = ap (passes (is_live (e ∷ past))) (owner_old e past k u) ∙ by (owner_of past k) refl
-  where
-    by : (o : Option ℕ) → owner_of past k ≡ o → passes (is_live (e ∷ past)) o ≡ (passes (is_live past) o && not (ends_domain (ended_by e) o))
-    by None q = refl
-    by (Some d) q = live_after e past d (owner_made s past k d a q)
-
 -- a service that a name was last bound to was made
 pub bound_made : (s : System) (past : Past) (name : List ℕ) (k : ℕ) → IsAdmittedPast s past → last_bound past name ≡ Some k → IsExported past k
 unfolding last_bound bound_by_act reply_to bound
@@ -225,51 +216,3 @@ bound_made s (e ∷ past) name k a h = by e.act e.reply a.0.reply h (bound_made 
             exported_stays e past k (subst (IsExported past) z (held_made past e.domain.0 j.0 (turned (holds_portal past e.domain.0 j.0) d.0)))
         binds false w h = exported_stays e past k (again h)
     by _ r q h again = exported_stays e past k (again h)
-
--- a name that the entry doesn't bind, where it ends nobody
-pub name_same : (s : System) (e : Entry) (past : Past) (name : List ℕ) → IsAdmittedPast s past → bound_by_act name e.act e.reply ≡ None → ended_by e ≡ None → bound_service (e ∷ past) name ≡ bound_service past name
-unfolding bound_service last_bound ends_domain
-name_same s e past name a n z =
-    ap (λ (o : Option ℕ). option_and_then (λ k. if has_live_owner (e ∷ past) k then Some k else None) (elim o as (λ _. Option ℕ) [ Some k ↦ Some k | None ↦ last_bound past name ])) n
-    ∙ by (last_bound past name) refl
-  where
-    by : (o : Option ℕ) → last_bound past name ≡ o → option_and_then (λ k. if has_live_owner (e ∷ past) k then Some k else None) o ≡ option_and_then (λ k. if has_live_owner past k then Some k else None) o
-    by None q = refl
-    by (Some k) q =
-        ap (λ (b : Bool). if b then Some k else None)
-        (live_owner_after s e past k a (bound_made s past name k a q).high ∙ ap (λ (x : Option (ℕ × Reason)). has_live_owner past k && not (ends_domain x (owner_of past k))) z ∙ and_true (has_live_owner past k))
-
--- a name that the entry binds: to the service, if its owner lives
-pub name_after_bind : (s : System) (e : Entry) (past : Past) (name : List ℕ) (k : ℕ) → IsAdmittedPast s past → k ≤ services_made past → bound_by_act name e.act e.reply ≡ Some k → ended_by e ≡ None →
-    bound_service (e ∷ past) name ≡ (if has_live_owner past k then Some k else None)
-unfolding bound_service last_bound ends_domain
-name_after_bind s e past name k a u n z =
-    ap (λ (o : Option ℕ). option_and_then (λ k. if has_live_owner (e ∷ past) k then Some k else None) (elim o as (λ _. Option ℕ) [ Some k ↦ Some k | None ↦ last_bound past name ])) n
-    ∙ ap (λ (b : Bool). if b then Some k else None)
-    (live_owner_after s e past k a u ∙ ap (λ (x : Option (ℕ × Reason)). has_live_owner past k && not (ends_domain x (owner_of past k))) z ∙ and_true (has_live_owner past k))
-
--- a name after the end of a domain: no longer bound where the service was that domain's
-pub name_after_end : (s : System) (e : Entry) (past : Past) (name : List ℕ) (d : ℕ) (why : Reason) → IsAdmittedPast s past → bound_by_act name e.act e.reply ≡ None → ended_by e ≡ Some (d, why) →
-    bound_service (e ∷ past) name ≡ option_and_then (λ k. if is_number (owner_of past k) d then None else Some k) (bound_service past name)
-unfolding bound_service last_bound ends_domain
-name_after_end s e past name d why a n z =
-    ap (λ (o : Option ℕ). option_and_then (λ k. if has_live_owner (e ∷ past) k then Some k else None) (elim o as (λ _. Option ℕ) [ Some k ↦ Some k | None ↦ last_bound past name ])) n
-    ∙ by (last_bound past name) refl
-  where
-    lost : (x y : Bool) (k : ℕ) → (if x && not y then Some k else None) ≡ option_and_then (λ k. if y then None else Some k) (if x then Some k else None)
-    lost true true k = refl
-    lost true false k = refl
-    lost false y k = refl
-
-    moved : (x : Bool) (k : ℕ) → option_and_then (λ j. if is_number (owner_of past k) d then None else Some j) (if x then Some k else None) ≡ option_and_then (λ j. if is_number (owner_of past j) d then None else Some j) (if x then Some k else None)
-    moved true k = refl
-    moved false k = refl
-
-    by : (o : Option ℕ) → last_bound past name ≡ o →
-        option_and_then (λ k. if has_live_owner (e ∷ past) k then Some k else None) o ≡ option_and_then (λ k. if is_number (owner_of past k) d then None else Some k) (option_and_then (λ k. if has_live_owner past k then Some k else None) o)
-    by None q = refl
-    by (Some k) q =
-        ap (λ (b : Bool). if b then Some k else None)
-        (live_owner_after s e past k a (bound_made s past name k a q).high ∙ ap (λ (x : Option (ℕ × Reason)). has_live_owner past k && not (ends_domain x (owner_of past k))) z)
-        ∙ lost (has_live_owner past k) (is_number (owner_of past k) d) k
-        ∙ moved (has_live_owner past k) k

@@ -24,7 +24,7 @@ use Rattle.jx_base.proofs.BasicLaws.{eq_of}
 use Rattle.jx_model.proofs.Acting.{acting_cases, domain_cases, acting_within, running_runs}
 use Rattle.history_rows.proofs.Records.{is_that, records_get, get_range, changed_at, set_changed}
 use Rattle.history_rows.proofs.Actors.{IsMade, live_made, actor_live}
-use Rattle.history_rows.proofs.ThreadRecords.{thread_record_after, service_of_thread, runs_as, leaves_thread, adds_none, threads_of_own, idle_record}
+use Rattle.history_rows.proofs.ThreadRecords.{thread_record_after, runs_as, leaves_thread, adds_none, threads_of_own, idle_record}
 use Rattle.history_rows.proofs.ThreadTable.{thread_table, threads_after, threads_kept, threads_after_birth, threads_added, records_left, first_records}
 
 -- ---- the acting thread
@@ -86,22 +86,22 @@ record_there past d t l = get_range (thread_record past d) 0 (length (service_th
 
 -- any act that adds no threads and makes no domain changes the record of its thread alone
 pub threads_stepped : (s : System) (past : Past) (e : Entry) → IsNext s past e → is_birth e ≡ false → new_threads e.act e.reply ≡ [] →
-    thread_table (e ∷ past) ≡ own_changed e.domain.0 e.thread.0 (λ item. thread_record_after (service_of_thread past e.domain.0 e.thread.0) item e.act e.reply) (thread_table past)
+    thread_table (e ∷ past) ≡ own_changed e.domain.0 e.thread.0 (λ item. thread_record_after item e.act e.reply) (thread_table past)
 threads_stepped s past e n b h = by e.domain.0 refl
   where
-    own : (d : ℕ) → e.domain.0 ≡ d → 1 ≤ d → thread_records (e ∷ past) d ≡ changed_at e.thread.0 (λ item. thread_record_after (service_of_thread past d e.thread.0) item e.act e.reply) (thread_records past d)
+    own : (d : ℕ) → e.domain.0 ≡ d → 1 ≤ d → thread_records (e ∷ past) d ≡ changed_at e.thread.0 (λ item. thread_record_after item e.act e.reply) (thread_records past d)
     own d q l =
         let w = subst (λ (k : ℕ). e.thread.0 ≤ length (service_threads past k)) q (thread_there s past e n) in
         threads_of_own e past d e.thread.0 (adds_none e d h) (subst (λ (k : ℕ). is_of_thread k e.thread.0 e ≡ true) q (own_thread e)) w
-        ∙ set_changed e.thread.0 (λ item. thread_record_after (service_of_thread past d e.thread.0) item e.act e.reply) (thread_records past d) (thread_record past d e.thread.0) (record_there past d e.thread.0 w)
+        ∙ set_changed e.thread.0 (λ item. thread_record_after item e.act e.reply) (thread_records past d) (thread_record past d e.thread.0) (record_there past d e.thread.0 w)
 
-    by : (d : ℕ) → e.domain.0 ≡ d → thread_table (e ∷ past) ≡ own_changed d e.thread.0 (λ item. thread_record_after (service_of_thread past d e.thread.0) item e.act e.reply) (thread_table past)
+    by : (d : ℕ) → e.domain.0 ≡ d → thread_table (e ∷ past) ≡ own_changed d e.thread.0 (λ item. thread_record_after item e.act e.reply) (thread_table past)
     by zero q = threads_of_zero e past b q
     by (suc i) q =
         let m = actor_made s past e n (omega (arith, q)) in
         threads_after e past (suc i) i b q (omega arith) (omega (arith, m.high, q))
         ∙ ap (set (thread_table past) i) (own (suc i) q (omega arith))
-        ∙ set_changed i (changed_at e.thread.0 (λ item. thread_record_after (service_of_thread past (suc i) e.thread.0) item e.act e.reply)) (thread_table past) (thread_records past (suc i)) (records_get (thread_records past) (domains_made past) (suc i) i (omega arith) (omega (arith, m.high, q)))
+        ∙ set_changed i (changed_at e.thread.0 (λ item. thread_record_after item e.act e.reply)) (thread_table past) (thread_records past (suc i)) (records_get (thread_records past) (domains_made past) (suc i) i (omega arith) (omega (arith, m.high, q)))
 
 -- ---- births and exports
 
@@ -139,41 +139,41 @@ threads_exported s past e a b c l = by e.domain.0 refl
 -- ---- what each act makes of its thread's record
 
 -- a queued call: it waits
-pub record_after_call : (k : Option ServiceId) (item : ThreadRecord) (s : ServiceId) (m : MethodId) (p : Parcel) (c : CallId) → thread_record_after k item (act.Call s m p) (reply.Queued c) ≡ record item { state = thread.Waiting c }
+pub record_after_call : (item : ThreadRecord) (s : ServiceId) (m : MethodId) (p : Parcel) (c : CallId) → thread_record_after item (act.Call s m p) (reply.Queued c) ≡ record item { state = thread.Waiting c }
 unfolding state_after served_after
-record_after_call k item s m p c = refl
+record_after_call item s m p c = refl
 
 -- a take: it serves the call
-pub record_after_take : (k : ServiceId) (item : ThreadRecord) (c : CallId) (r : Reply) → thread_record_after (Some k) item (act.Take c) r ≡ record { state = thread.Serving c; serves = Some c }
+pub record_after_take : (k : ServiceId) (item : ThreadRecord) (c : CallId) (r : Reply) → item.service ≡ Some k → thread_record_after item (act.Take c) r ≡ record item { state = thread.Serving c; serves = Some c }
 unfolding state_after served_after serving_state
-record_after_take k item c r = refl
+record_after_take k item c r q = ap (λ (o : Option ServiceId). let x : ThreadRecord = record item { state = runs_as o (Some c); serves = Some c } in x) q
 
 -- a return or throw: it is idle again
-pub record_after_return : (k : ServiceId) (item : ThreadRecord) (c : CallId) (p : Parcel) (r : Reply) → thread_record_after (Some k) item (act.Return c p) r ≡ record { state = thread.Idle k; serves = None }
+pub record_after_return : (k : ServiceId) (item : ThreadRecord) (c : CallId) (p : Parcel) (r : Reply) → item.service ≡ Some k → thread_record_after item (act.Return c p) r ≡ record item { state = thread.Idle k; serves = None }
 unfolding state_after served_after serving_state
-record_after_return k item c p r = refl
+record_after_return k item c p r q = ap (λ (o : Option ServiceId). let x : ThreadRecord = record item { state = runs_as o None; serves = None } in x) q
 
 -- the same after a throw
-pub record_after_throw : (k : ServiceId) (item : ThreadRecord) (c : CallId) (p : Parcel) (r : Reply) → thread_record_after (Some k) item (act.Throw c p) r ≡ record { state = thread.Idle k; serves = None }
+pub record_after_throw : (k : ServiceId) (item : ThreadRecord) (c : CallId) (p : Parcel) (r : Reply) → item.service ≡ Some k → thread_record_after item (act.Throw c p) r ≡ record item { state = thread.Idle k; serves = None }
 unfolding state_after served_after serving_state
-record_after_throw k item c p r = refl
+record_after_throw k item c p r q = ap (λ (o : Option ServiceId). let x : ThreadRecord = record item { state = runs_as o None; serves = None } in x) q
 
 -- a yield
-pub record_after_yield : (k : Option ServiceId) (item : ThreadRecord) (r : Reply) → thread_record_after k item act.Yield r ≡ record item { state = thread.Yielded }
+pub record_after_yield : (item : ThreadRecord) (r : Reply) → thread_record_after item act.Yield r ≡ record item { state = thread.Yielded }
 unfolding state_after served_after
-record_after_yield k item r = refl
+record_after_yield item r = refl
 
 -- an end of the thread
-pub record_after_end_thread : (k : Option ServiceId) (item : ThreadRecord) (c : Option ClassId) (r : Reply) → thread_record_after k item (act.EndThread c) r ≡ record item { state = thread.Over }
+pub record_after_end_thread : (item : ThreadRecord) (c : Option ClassId) (r : Reply) → thread_record_after item (act.EndThread c) r ≡ record item { state = thread.Over }
 unfolding state_after served_after
-record_after_end_thread k item c r = refl
+record_after_end_thread item c r = refl
 
 -- a resume: it runs as before it waited
-pub record_after_resume : (k : Option ServiceId) (item : ThreadRecord) (c : CallId) (r : Reply) → thread_record_after k item (act.Resume c) r ≡ record item { state = runs_as k item.serves }
+pub record_after_resume : (item : ThreadRecord) (c : CallId) (r : Reply) → thread_record_after item (act.Resume c) r ≡ record item { state = runs_as item.service item.serves }
 unfolding state_after served_after
-record_after_resume k item c r = refl
+record_after_resume item c r = refl
 
 -- a go: it runs as before it yielded
-pub record_after_go : (k : Option ServiceId) (item : ThreadRecord) (t : ThreadId) (r : Reply) → thread_record_after k item (act.Go t) r ≡ record item { state = runs_as k item.serves }
+pub record_after_go : (item : ThreadRecord) (t : ThreadId) (r : Reply) → thread_record_after item (act.Go t) r ≡ record item { state = runs_as item.service item.serves }
 unfolding state_after served_after
-record_after_go k item t r = refl
+record_after_go item t r = refl

@@ -13,7 +13,7 @@ use Rattle.jx_base.specs.declared.states.ThreadState.TheVariants as thread
 use Rattle.jx_base.specs.Basics.{passes}
 use Rattle.jx_base.specs.Histories.{Past, is_own}
 use Rattle.jx_model.specs.Threads.{service_threads, new_threads_of, new_threads, threads_of, is_of_thread, served_call, served_after, state_after, state_by_last, serving_state, last_of_thread, thread_state, is_running_state}
-use Rattle.jx_model.specs.Tables.{ThreadRecord, thread_record, thread_records, state_or_over}
+use Rattle.jx_model.specs.Tables.{service_of_thread, ThreadRecord, thread_record, thread_records, state_or_over}
 use Rattle.jx_base.proofs.BasicLaws.{ap2, ap3}
 use Rattle.jx_model.proofs.OneThread.{serves_same, last_same, state_with}
 use Rattle.history_rows.proofs.Records.{map_range, set_range}
@@ -21,19 +21,18 @@ use Rattle.std.specs.Option.{option_map}
 
 -- ---- one thread
 
--- the service of a thread: thread 0 has none
-abbrev pub service_of_thread : Past → ℕ → ℕ → Option ServiceId
-service_of_thread past d zero = None
-service_of_thread past d (suc t) = slice_get (service_threads past d) t
-
 -- what a thread does where nothing made it stop
 abbrev pub runs_as : Option ServiceId → Option CallId → ThreadState
 runs_as None c = thread.Running
 runs_as (Some s) c = serving_state s c
 
 -- a thread's record after its own entry
-abbrev pub thread_record_after : Option ServiceId → ThreadRecord → Act → Reply → ThreadRecord
-thread_record_after service item a r = record { state = state_after (runs_as service (served_after item.serves a)) a r; serves = served_after item.serves a }
+abbrev pub thread_record_after : ThreadRecord → Act → Reply → ThreadRecord
+thread_record_after item a r =
+    record item {
+      state = state_after (runs_as item.service (served_after item.serves a)) a r;
+      serves = served_after item.serves a;
+    }
 
 serves_own : (e : Entry) (past : Past) (d t : ℕ) → is_of_thread d t e ≡ true → served_call (e ∷ past) d t ≡ served_after (served_call past d t) e.act
 unfolding served_call
@@ -54,19 +53,19 @@ service_there past d t l = there (service_threads past d) t l
 
 -- an own entry of a thread that is there makes its record of the record before
 pub thread_record_own : (e : Entry) (past : Past) (d t : ℕ) → service_of_thread (e ∷ past) d t ≡ service_of_thread past d t → is_of_thread d t e ≡ true → t ≤ length (service_threads past d) →
-    thread_record (e ∷ past) d t ≡ thread_record_after (service_of_thread past d t) (thread_record past d t) e.act e.reply
+    thread_record (e ∷ past) d t ≡ thread_record_after (thread_record past d t) e.act e.reply
 unfolding thread_record thread_state state_or_over state_by_last
 thread_record_own e past d zero n h l =
-    ap2 (λ (o : Option Entry) (c : Option CallId). let item : ThreadRecord = record { state = state_by_last thread.Running o; serves = c } in item) (last_own e past d 0 h) (serves_own e past d 0 h)
+    ap2 (λ (o : Option Entry) (c : Option CallId). let item : ThreadRecord = record { service = None; state = state_by_last thread.Running o; serves = c } in item) (last_own e past d 0 h) (serves_own e past d 0 h)
 thread_record_own e past d (suc t) n h l =
     let k = service_there past d t l in
-    ap3 (λ (c : Option CallId) (o : Option Entry) (k : Option ServiceId). let item : ThreadRecord = record { state = state_or_over (option_map (state_with c o) k); serves = c } in item)
+    ap3 (λ (c : Option CallId) (o : Option Entry) (k : Option ServiceId). let item : ThreadRecord = record { service = k; state = state_or_over (option_map (state_with c o) k); serves = c } in item)
     (serves_own e past d (suc t) h) (last_own e past d (suc t) h) n
     ∙ by k.0 (slice_get (service_threads past d) t) k.1
   where
     by : (k : ServiceId) (o : Option ServiceId) → o ≡ Some k →
-        (let item : ThreadRecord = record { state = state_or_over (option_map (state_with (served_after (served_call past d (suc t)) e.act) (Some e)) o); serves = served_after (served_call past d (suc t)) e.act } in item)
-        ≡ record { state = state_after (runs_as o (served_after (served_call past d (suc t)) e.act)) e.act e.reply; serves = served_after (served_call past d (suc t)) e.act }
+        (let item : ThreadRecord = record { service = o; state = state_or_over (option_map (state_with (served_after (served_call past d (suc t)) e.act) (Some e)) o); serves = served_after (served_call past d (suc t)) e.act } in item)
+        ≡ record { service = o; state = state_after (runs_as o (served_after (served_call past d (suc t)) e.act)) e.act e.reply; serves = served_after (served_call past d (suc t)) e.act }
     by k None q = cc
     by k (Some s) q = refl
 
@@ -74,9 +73,9 @@ thread_record_own e past d (suc t) n h l =
 pub thread_record_other : (e : Entry) (past : Past) (d t : ℕ) → service_of_thread (e ∷ past) d t ≡ service_of_thread past d t → is_of_thread d t e ≡ false → thread_record (e ∷ past) d t ≡ thread_record past d t
 unfolding thread_record thread_state state_or_over
 thread_record_other e past d zero n h =
-    ap2 (λ (o : Option Entry) (c : Option CallId). let item : ThreadRecord = record { state = state_by_last thread.Running o; serves = c } in item) (last_same e past d 0 h) (serves_same e past d 0 h)
+    ap2 (λ (o : Option Entry) (c : Option CallId). let item : ThreadRecord = record { service = None; state = state_by_last thread.Running o; serves = c } in item) (last_same e past d 0 h) (serves_same e past d 0 h)
 thread_record_other e past d (suc t) n h =
-    ap3 (λ (c : Option CallId) (o : Option Entry) (k : Option ServiceId). let item : ThreadRecord = record { state = state_or_over (option_map (state_with c o) k); serves = c } in item)
+    ap3 (λ (c : Option CallId) (o : Option Entry) (k : Option ServiceId). let item : ThreadRecord = record { service = k; state = state_or_over (option_map (state_with c o) k); serves = c } in item)
     (serves_same e past d (suc t) h) (last_same e past d (suc t) h) n
 
 -- a thread keeps its service where its domain has the same threads
@@ -123,7 +122,7 @@ not_this a x t k h n = grind arith
 
 -- an entry of a thread sets that thread's record
 pub threads_of_own : (e : Entry) (past : Past) (d t : ℕ) → new_threads_of d e ≡ [] → is_of_thread d t e ≡ true → t ≤ length (service_threads past d) →
-    thread_records (e ∷ past) d ≡ set (thread_records past d) t (thread_record_after (service_of_thread past d t) (thread_record past d t) e.act e.reply)
+    thread_records (e ∷ past) d ≡ set (thread_records past d) t (thread_record_after (thread_record past d t) e.act e.reply)
 unfolding thread_records threads_of is_of_thread
 threads_of_own e past d t n h l =
     let m = same_threads e past d n in
@@ -175,25 +174,25 @@ runs_by_last x (Some e) h = runs_after x e.act e.reply h
 
 -- the record of a running thread
 pub running_record : (past : Past) (d t : ℕ) → passes is_running_state (thread_state past d t) ≡ true →
-    thread_record past d t ≡ record { state = runs_as (service_of_thread past d t) (served_call past d t); serves = served_call past d t }
+    thread_record past d t ≡ record { service = service_of_thread past d t; state = runs_as (service_of_thread past d t) (served_call past d t); serves = served_call past d t }
 unfolding thread_record thread_state state_or_over passes
-running_record past d zero h = ap (λ (x : ThreadState). let item : ThreadRecord = record { state = x; serves = served_call past d 0 } in item) (runs_by_last thread.Running (last_of_thread past d 0) h)
+running_record past d zero h = ap (λ (x : ThreadState). let item : ThreadRecord = record { service = None; state = x; serves = served_call past d 0 } in item) (runs_by_last thread.Running (last_of_thread past d 0) h)
 running_record past d (suc t) h = by (slice_get (service_threads past d) t) h
   where
     by : (o : Option ServiceId) → passes is_running_state (option_map (state_with (served_call past d (suc t)) (last_of_thread past d (suc t))) o) ≡ true →
-        (let item : ThreadRecord = record { state = state_or_over (option_map (state_with (served_call past d (suc t)) (last_of_thread past d (suc t))) o); serves = served_call past d (suc t) } in item)
-        ≡ record { state = runs_as o (served_call past d (suc t)); serves = served_call past d (suc t) }
+        (let item : ThreadRecord = record { service = o; state = state_or_over (option_map (state_with (served_call past d (suc t)) (last_of_thread past d (suc t))) o); serves = served_call past d (suc t) } in item)
+        ≡ record { service = o; state = runs_as o (served_call past d (suc t)); serves = served_call past d (suc t) }
     by None h = cc
     by (Some k) h =
-        ap (λ (x : ThreadState). let item : ThreadRecord = record { state = x; serves = served_call past d (suc t) } in item)
+        ap (λ (x : ThreadState). let item : ThreadRecord = record { service = Some k; state = x; serves = served_call past d (suc t) } in item)
         (runs_by_last (serving_state k (served_call past d (suc t))) (last_of_thread past d (suc t)) h)
 
 -- an act that leaves a running thread as it is leaves its record
 pub record_left : (past : Past) (d t : ℕ) (a : Act) (r : Reply) → passes is_running_state (thread_state past d t) ≡ true → leaves_thread a r ≡ true →
-    thread_record_after (service_of_thread past d t) (thread_record past d t) a r ≡ thread_record past d t
+    thread_record_after (thread_record past d t) a r ≡ thread_record past d t
 record_left past d t a r h l =
-    ap (λ (item : ThreadRecord). thread_record_after (service_of_thread past d t) item a r) (running_record past d t h)
-    ∙ ap2 (λ (c : Option CallId) (x : ThreadState). let item : ThreadRecord = record { state = x; serves = c } in item)
+    ap (λ (item : ThreadRecord). thread_record_after item a r) (running_record past d t h)
+    ∙ ap2 (λ (c : Option CallId) (x : ThreadState). let item : ThreadRecord = record { service = service_of_thread past d t; state = x; serves = c } in item)
     (left_served (served_call past d t) a r l)
     (left_state (runs_as (service_of_thread past d t) (served_after (served_call past d t) a)) a r l ∙ ap (runs_as (service_of_thread past d t)) (left_served (served_call past d t) a r l))
     ∙ sym (running_record past d t h)
@@ -202,4 +201,4 @@ record_left past d t a r h l =
 
 -- a thread that was just added is idle
 abbrev pub idle_record : ServiceId → ThreadRecord
-idle_record k = record { state = thread.Idle k; serves = None }
+idle_record k = record { service = Some k; state = thread.Idle k; serves = None }

@@ -11,13 +11,13 @@ use Rattle.jx_base.specs.Basics.{up_to, passes}
 use Rattle.jx_base.specs.Histories.{Past, is_own}
 use Rattle.jx_model.specs.Domains.{is_birth, domains_made}
 use Rattle.jx_model.specs.Threads.{service_threads, new_threads_of, threads_of, is_of_thread, state_by_last, serving_state, thread_state, is_running_state}
-use Rattle.jx_model.specs.Tables.{ThreadRecord, thread_record, thread_records, state_or_over}
+use Rattle.jx_model.specs.Tables.{service_of_thread, ThreadRecord, thread_record, thread_records, state_or_over}
 use Rattle.jx_model.specs.Legal.{IsNext, IsAdmittedPast}
 use Rattle.jx_base.proofs.BasicLaws.{ap2, ap3, eq_of, range_append}
 use Rattle.jx_base.proofs.NthEntries.{count_new, count_same}
 use Rattle.jx_model.proofs.OneThread.{serves_same, last_same, state_with}
 use Rattle.history_rows.proofs.Records.{map_range, set_range, records_same, records_more, records_set, not_that, same_or_not}
-use Rattle.history_rows.proofs.ThreadRecords.{service_of_thread, leaves_thread, threads_of_own, threads_of_other, idle_record, record_left, thread_record_own, thread_record_other, not_this}
+use Rattle.history_rows.proofs.ThreadRecords.{leaves_thread, threads_of_own, threads_of_other, idle_record, record_left, thread_record_own, thread_record_other, not_this}
 use Rattle.history_rows.proofs.Actors.{unmade_acts}
 use Rattle.history_rows.proofs.Absent.{IsAbsent, absent, unmade_absent, unmade_threads, stranger}
 use Rattle.std.specs.Option.{option_map}
@@ -69,13 +69,13 @@ records_left e past d t n h l r k =
 
 -- the records of a domain that was just made
 abbrev pub first_records : List ThreadRecord
-first_records = record { state = thread.Running; serves = None } ∷ []
+first_records = record { service = None; state = thread.Running; serves = None } ∷ []
 
 new_records : (past : Past) (d : ℕ) → service_threads past d ≡ [] → IsAbsent past d 0 → thread_records past d ≡ first_records
 unfolding thread_records threads_of thread_record thread_state state_or_over state_by_last
 new_records past d h a =
     ap (λ (ss : List ServiceId). map (thread_record past d) (range_with_len 0 (length ss + 1))) h
-    ∙ ap2 (λ (o : Option Entry) (c : Option CallId). let item : ThreadRecord = record { state = state_by_last thread.Running o; serves = c } in item ∷ []) a.last a.serves
+    ∙ ap2 (λ (o : Option Entry) (c : Option CallId). let item : ThreadRecord = record { service = None; state = state_by_last thread.Running o; serves = c } in item ∷ []) a.last a.serves
 
 -- the entry that makes a domain adds the records of its first thread
 pub threads_after_birth : (s : System) (e : Entry) (past : Past) → IsAdmittedPast s (e ∷ past) → is_birth e ≡ true → (1 ≤ e.domain.0 → thread_records (e ∷ past) e.domain.0 ≡ thread_records past e.domain.0) →
@@ -121,7 +121,7 @@ added_record : (s : System) (e : Entry) (past : Past) (d i : ℕ) (k : ServiceId
     thread_record (e ∷ past) d (suc (length (service_threads past d) + i)) ≡ idle_record k
 unfolding thread_record thread_state state_or_over service_threads state_by_last serving_state
 added_record s e past d i k n a h =
-    ap3 (λ (c : Option CallId) (o : Option Entry) (k : Option ServiceId). let item : ThreadRecord = record { state = state_or_over (option_map (state_with c o) k); serves = c } in item)
+    ap3 (λ (c : Option CallId) (o : Option Entry) (k : Option ServiceId). let item : ThreadRecord = record { service = k; state = state_or_over (option_map (state_with c o) k); serves = c } in item)
     (serves_same e past d t o ∙ b.serves) (last_same e past d t o ∙ b.last) (get_right (service_threads past d) (new_threads_of d e) i (length (service_threads past d) + i) refl ∙ h)
   where
     t : ℕ

@@ -1,9 +1,10 @@
 -- What a nucleus keeps, as plain lists read off its past. Thing number n stands at place n - 1.
-use Rattle.std.specs.Prelude.{◌≡◌, ℕ, Bool, List, [], ◌∷◌, map, Option, Some, None, if◌then◌else◌}
+use Rattle.std.specs.Prelude.{◌≡◌, ℕ, zero, suc, Bool, List, [], ◌∷◌, map, Option, Some, None, slice_get, if◌then◌else◌}
 use Rattle.std.specs.List.{range_with_len}
 use Rattle.std.specs.Str.{bytes_eq}
 use Rattle.jx_base.specs.declared.ids.CallId.{CallId}
 use Rattle.jx_base.specs.declared.ids.ClassId.{ClassId}
+use Rattle.jx_base.specs.declared.ids.ServiceId.{ServiceId}
 use Rattle.jx_base.specs.declared.states.CallState.{CallState}
 use Rattle.jx_base.specs.declared.states.DomainState.{DomainState}
 use Rattle.jx_base.specs.declared.states.ThreadState.{ThreadState}
@@ -13,13 +14,15 @@ use Rattle.jx_base.specs.Basics.{up_to}
 use Rattle.program_model.specs.Limits.{domain_limit, granule_limit}
 use Rattle.jx_base.specs.Histories.{Past}
 use Rattle.jx_model.specs.Domains.{domains_made, template_of, creator_of, heap_place_of, end_reason}
-use Rattle.jx_model.specs.Threads.{thread_state, threads_of, served_call}
-use Rattle.jx_model.specs.Portals.{services_made, owner_of, interface_of, holds_portal, bound_service}
+use Rattle.jx_model.specs.Threads.{service_threads, thread_state, threads_of, served_call}
+use Rattle.jx_model.specs.Portals.{services_made, owner_of, interface_of, holds_portal, last_bound}
 use Rattle.jx_model.specs.Calls.{calls_made, call_state, call_entry, waiting_calls, service_of_call, caller_of}
 use Rattle.jx_model.specs.MemoryObjects.{Part, objects_of, objects_made, is_valid, extents_made, allocation_of, allocated_bytes}
 use Rattle.jx_model.specs.Holding.{holds_object, riding_count, carried, is_extent_in_use}
 use Rattle.jx_model.specs.Granules.{Run, extent_run, is_used_granule}
 use Rattle.jx_model.specs.Bytes.{byte_at}
+use Rattle.jx_model.specs.Journal.{words_of}
+use Rattle.jx_model.specs.Permits.{is_over, creates_made}
 use Rattle.jx_model.specs.Legal.{IsAdmittedPast}
 use Rattle.std.specs.Option.{option_map, unwrap_or}
 
@@ -39,8 +42,14 @@ domain_record s past d =
 unfoldable pub domain_records : System → Past → List DomainState
 domain_records s past = map (domain_record s past) (up_to (domains_made past))
 
--- a thread: what it does, and the call that it serves also while it waits or has yielded
+-- the service of a thread; thread 0 has none
+abbrev pub service_of_thread : Past → ℕ → ℕ → Option ServiceId
+service_of_thread past d zero = None
+service_of_thread past d (suc t) = slice_get (service_threads past d) t
+
+-- a thread: its service, what it does, and the call that it serves also while it waits or has yielded
 pub record ThreadRecord : Type 0 where
+  pub service : Option ServiceId
   pub state : ThreadState
   pub serves : Option CallId
 
@@ -51,7 +60,12 @@ state_or_over (Some x) = x
 
 -- a thread of a domain
 unfoldable pub thread_record : Past → ℕ → ℕ → ThreadRecord
-thread_record past d t = record { state = state_or_over (thread_state past d t); serves = served_call past d t }
+thread_record past d t =
+    record {
+      service = service_of_thread past d t;
+      state = state_or_over (thread_state past d t);
+      serves = served_call past d t;
+    }
 
 -- the threads of a domain, thread 0 first
 unfoldable pub thread_records : Past → ℕ → List ThreadRecord
@@ -82,7 +96,7 @@ service_record s past k =
 unfoldable pub service_records : System → Past → List ServiceRecord
 service_records s past = map (service_record s past) (up_to (services_made past))
 
--- the service that a list of names has for the name, the first that stands there
+-- the service that a list of binds has for the name: that of the first bind that stands there
 unfoldable pub named_service : List (List ℕ × ℕ) → List ℕ → Option ℕ
 named_service [] name = None
 named_service (x ∷ xs) name = if bytes_eq x.0 name then Some x.1 else named_service xs name
@@ -170,6 +184,9 @@ granule_flags s past = map (is_used_granule s past) (range_with_len 0 (granule_l
 -- what a nucleus keeps beside its past
 pub record Kept : Type 0 where
   pub past : Past
+  pub over : Bool
+  pub words : ℕ
+  pub creates : ℕ
   pub domains : List DomainState
   pub threads : List (List ThreadRecord)
   pub services : List ServiceRecord
@@ -184,10 +201,13 @@ pub record Kept : Type 0 where
 -- all that is kept is what the admitted past says
 pub record StandsFor (s : System) (k : Kept) : Type 0 where
   pub admitted : IsAdmittedPast s k.past
+  pub over : k.over ≡ is_over k.past
+  pub words : k.words ≡ words_of k.past
+  pub creates : k.creates ≡ creates_made k.past
   pub domains : k.domains ≡ domain_records s k.past
   pub threads : k.threads ≡ map (thread_records k.past) (up_to (domains_made k.past))
   pub services : k.services ≡ service_records s k.past
-  pub names : (name : List ℕ) → named_service k.names name ≡ bound_service k.past name
+  pub names : (name : List ℕ) → named_service k.names name ≡ last_bound k.past name
   pub calls : k.calls ≡ call_records k.past
   pub waiting : k.waiting ≡ waiting_calls k.past
   pub parts : k.parts ≡ objects_of k.past
