@@ -1,5 +1,5 @@
 -- The calls after each kind of act.
-use Rattle.std.proofs.Common.{◌≡◌, ◌≢◌, refl, sym, ◌∙◌, ap, subst, ℕ, ◌+◌, ◌≤◌, Bool, true, false, not, ◌&&◌, ◌||◌, List, [], ◌∷◌, ◌++◌, map, Option, Some, None, is_some, is_none, arith, ◌==◌, if◌then◌else◌, filter, set}
+use Rattle.std.proofs.Common.{◌≡◌, ◌≢◌, refl, sym, ◌∙◌, ap, subst, ℕ, ◌+◌, ◌≤◌, Bool, true, false, not, ◌&&◌, ◌||◌, List, [], ◌∷◌, ◌++◌, length, map, Option, Some, None, is_some, is_none, arith, ◌==◌, if◌then◌else◌, filter, set}
 use Rattle.jx_base.specs.declared.act.Act.{Act}
 use Rattle.jx_base.specs.declared.act.Act.TheVariants as act
 use Rattle.jx_base.specs.declared.act.Reply.{Reply}
@@ -25,13 +25,14 @@ use Rattle.jx_model.specs.Calls.{Answer, is_call, calls_made, call_entry, first_
 use Rattle.jx_model.specs.Holding.{carried, carried_by, asked_objects, answer_objects}
 use Rattle.jx_model.specs.Permits.{acting_thread}
 use Rattle.jx_model.specs.Replies.{sent_back, ◌refuses◌else◌}
-use Rattle.jx_model.specs.Tables.{CallRecord, call_record, call_records}
+use Rattle.jx_model.specs.Tables.{answered_at, CallRecord, call_record, call_records}
 use Rattle.jx_model.specs.Legal.{IsAdmittedPast}
 use Rattle.jx_base.proofs.BasicLaws.{ap2, ap3, both, and_true, and_false}
 use Rattle.jx_base.proofs.NthEntries.{nth_there, nth_passes, count_same, count_grows}
 use Rattle.history_rows.proofs.Records.{not_that, is_that, records_same, map_map, filter_behind, some_of, or_false}
-use Rattle.history_rows.proofs.Stages.{StandsAt, live_caller_after, resumes, resumable_parts}
-use Rattle.history_rows.proofs.CallRecords.{state_after_entry, carried_after, call_record_made, call_record_same, call_record_new, calls_same, calls_more, calls_one, unqueues, waiting_after, waiting_same, waiting_more}
+use Rattle.history_rows.proofs.Places.{answered_placed}
+use Rattle.history_rows.proofs.Stages.{StandsAt, resumed_answered, live_caller_after, resumes, resumable_parts}
+use Rattle.history_rows.proofs.CallRecords.{place_after, place_kept, state_after_entry, carried_after, call_record_made, call_record_same, call_record_new, calls_same, calls_more, calls_one, unqueues, waiting_after, waiting_same, waiting_more}
 use Rattle.std.specs.Option.{option_and_then, option_map, unwrap_or}
 
 -- an entry by its parts
@@ -86,7 +87,7 @@ module _ (s : System) (past : Past) (admitted : IsAdmittedPast s past) (d t : �
   -- a queued call adds its record
   pub calls_after_call : (k : ServiceId) (m : MethodId) (p : Parcel) (c : CallId) →
       call_records (entry d t (act.Call k m p) (reply.Queued c) ∷ past)
-      ≡ call_records past ++ (record { caller = d; thread = t; service = k.0; state = call.Queued; carried = parcel_objects p }) ∷ []
+      ≡ call_records past ++ (record { caller = d; thread = t; service = k.0; state = call.Queued; carried = parcel_objects p; queued_at = length past; answered_at = None }) ∷ []
   unfolding is_call asked_by queued_as is_take_of is_resume_of answered_by answered_by_act ends_server ends_domain ended_by ended_by_act asked_objects
   calls_after_call k m p c =
       calls_more (entry d t (act.Call k m p) (reply.Queued c)) past refl (λ n l u. call_record_same (entry d t (act.Call k m p) (reply.Queued c)) past n l u refl refl refl (caller_lives_on s (entry d t (act.Call k m p) (reply.Queued c)) past n admitted u refl))
@@ -112,8 +113,10 @@ module _ (s : System) (past : Past) (admitted : IsAdmittedPast s past) (d t : �
       ∙ ap2 (λ (x : Bool) (st : CallState). let item : CallRecord = record (call_record past c.0) {
         state = state_after_entry st x None false;
         carried = carried_after st (carried past c.0) x None (has_live_caller (entry d t (act.Take c) r ∷ past) c.0 && true);
+        answered_at = place_after (answered_at past c.0) None (length past);
       } in item)
-      (is_that c.0 c.0 refl) q.state)
+      (is_that c.0 c.0 refl) q.state
+      ∙ ap (λ (w : Option ℕ). let item : CallRecord = record (call_record past c.0) { state = call.Running; carried = []; answered_at = w } in item) (place_kept (answered_at past c.0) (length past)))
 
   -- it waits no more
   pub waiting_after_take : (c : CallId) (r : Reply) → waiting_calls (entry d t (act.Take c) r ∷ past) ≡ filter (λ n. not (c.0 == n)) (waiting_calls past)
@@ -132,9 +135,20 @@ pub record AnswersOne (past : Past) (e : Entry) (c : ℕ) (x : Answer) : Type 0 
   pub answer : answered_by past e c ≡ Some x
   pub others : (n : ℕ) → n ≢ c → answered_by past e n ≡ None
 
+-- a call that runs has no place of an answer
+pub running_unplaced : (past : Past) (c : ℕ) → call_state past c ≡ call.Running → answered_at past c ≡ None
+unfolding call_state call_stage
+running_unplaced past c h = by (is_resumed past c) (answer_of past c) (is_taken past c) (answered_at past c) (answered_placed past c) h
+  where
+    by : (r : Bool) (o : Option Answer) (t : Bool) (w : Option ℕ) → is_some w ≡ is_some o → call_stage r o t ≡ call.Running → w ≡ None
+    by r o t None s h = refl
+    by true o t (Some i) s h = cc
+    by false (Some a) t (Some i) s h = cc
+    by false None t (Some i) s h = cc
+
 -- an answered call carries its answer's objects, where its caller lives
 pub calls_after_answer : (s : System) (past : Past) (e : Entry) (c i : ℕ) (x : Answer) → IsAdmittedPast s past → AnswersOne past e c x → c ≡ i + 1 → StandsAt past c call.Running →
-    call_records (e ∷ past) ≡ set (call_records past) i (record (call_record past c) { state = call.Answered (answer_kind x); carried = if has_live_caller past c then answer_objects (Some x) else [] })
+    call_records (e ∷ past) ≡ set (call_records past) i (record (call_record past c) { state = call.Answered (answer_kind x); carried = if has_live_caller past c then answer_objects (Some x) else []; answered_at = Some (length past) })
 unfolding call_record
 calls_after_answer s past e c i x a h q z =
     calls_one e past c i h.call q z.high (λ k l u n. call_record_same e past k l u (h.take k) (h.others k n) (h.resume k) (caller_lives_on s e past k a u h.ends))
@@ -143,13 +157,15 @@ calls_after_answer s past e c i x a h q z =
     ∙ ap3 (λ (t : Bool) (o : Option Answer) (r : Bool). let item : CallRecord = record (call_record past c) {
       state = state_after_entry (call_state past c) t o r;
       carried = carried_after (call_state past c) (carried past c) t o (has_live_caller (e ∷ past) c && not r);
+      answered_at = place_after (answered_at past c) o (length past);
     } in item)
     (h.take c) h.answer (h.resume c)
-    ∙ ap2 (λ (st : CallState) (b : Bool). let item : CallRecord = record (call_record past c) {
+    ∙ ap3 (λ (st : CallState) (b : Bool) (w : Option ℕ). let item : CallRecord = record (call_record past c) {
       state = state_after_entry st false (Some x) false;
       carried = carried_after st (carried past c) false (Some x) b;
+      answered_at = place_after w (Some x) (length past);
     } in item)
-    z.state (and_true (has_live_caller (e ∷ past) c) ∙ caller_lives_on s e past c a z.high h.ends))
+    z.state (and_true (has_live_caller (e ∷ past) c) ∙ caller_lives_on s e past c a z.high h.ends) (running_unplaced past c z.state))
 
 -- it leaves the waiting calls
 pub waiting_after_answer : (past : Past) (e : Entry) (c : ℕ) (x : Answer) → AnswersOne past e c x → is_queued past c ≡ false → waiting_calls (e ∷ past) ≡ waiting_calls past
@@ -242,9 +258,10 @@ calls_after_resume s past d t c r i k a e q =
     ∙ ap2 (λ (x : Bool) (st : CallState). let item : CallRecord = record (call_record past c.0) {
       state = state_after_entry st false None x;
       carried = carried_after st (carried past c.0) false None (has_live_caller (entry d t (act.Resume c) r ∷ past) c.0 && not x);
+      answered_at = place_after (answered_at past c.0) None (length past);
     } in item)
     (is_that c.0 c.0 refl) q.state
-    ∙ ap (λ (b : Bool). let item : CallRecord = record (call_record past c.0) { state = call.Resumed; carried = if b then carried past c.0 else [] } in item) (and_false (has_live_caller (entry d t (act.Resume c) r ∷ past) c.0)))
+    ∙ ap2 (λ (b : Bool) (w : Option ℕ). let item : CallRecord = record (call_record past c.0) { state = call.Resumed; carried = if b then carried past c.0 else []; answered_at = w } in item) (and_false (has_live_caller (entry d t (act.Resume c) r ∷ past) c.0)) (place_kept (answered_at past c.0) (length past)))
 
 -- it leaves the waiting calls
 pub waiting_after_resume : (past : Past) (d t : ℕ) (c : CallId) (r : Reply) → waiting_calls (entry d t (act.Resume c) r ∷ past) ≡ waiting_calls past
@@ -274,12 +291,19 @@ carried_after_end lost gone call.Queued old = if lost then [] else old
 carried_after_end lost gone (call.Answered k) old = if gone then [] else old
 carried_after_end lost gone _ old = []
 
--- a call's record after the end of domain d, by which services are that domain's
-abbrev pub ended_call : (ℕ → Bool) → ℕ → CallRecord → CallRecord
-ended_call lost d item =
+-- the place of its answer then, from that of the end
+abbrev pub place_after_end : Bool → CallState → Option ℕ → ℕ → Option ℕ
+place_after_end true call.Queued old at = Some at
+place_after_end true call.Running old at = Some at
+place_after_end lost _ old at = old
+
+-- a call's record after the end of domain d at that place, by which services are that domain's
+abbrev pub ended_call : (ℕ → Bool) → ℕ → ℕ → CallRecord → CallRecord
+ended_call lost d at item =
     record item {
       state = state_after_end (lost item.service) item.state;
       carried = carried_after_end (lost item.service) (item.caller == d) item.state item.carried;
+      answered_at = place_after_end (lost item.service) item.state item.answered_at at;
     }
 
 -- whether domain d owns the service
@@ -339,27 +363,49 @@ dead_carries past c k h l = by (is_some (call_entry past c)) (is_resumed past c)
     by m false None true false h l = cc
     by m false None false false h l = cc
 
+-- the place of a call's answer after an end
+place_at_end : (s : System) (past : Past) (c : ℕ) (lost : Bool) (at : ℕ) → IsAdmittedPast s past → place_after (answered_at past c) (if lost then Some Answer.Ended else None) at ≡ place_after_end lost (call_state past c) (answered_at past c) at
+unfolding call_state call_stage
+place_at_end s past c lost at a = by lost (is_resumed past c) (answer_of past c) (is_taken past c) (answered_at past c) (answered_placed past c) (resumed_answered s past c a)
+  where
+    by : (lost r : Bool) (o : Option Answer) (t : Bool) (w : Option ℕ) → is_some w ≡ is_some o → (r ≡ true → is_some o ≡ true) →
+        place_after w (if lost then Some Answer.Ended else None) at ≡ place_after_end lost (call_stage r o t) w at
+    by lost r (Some a) t None s g = cc
+    by lost r None t (Some i) s g = cc
+    by lost true None t None s g = cc (g refl)
+    by true true (Some a) t (Some i) s g = refl
+    by false true (Some a) t (Some i) s g = refl
+    by true false (Some a) t (Some i) s g = refl
+    by false false (Some a) t (Some i) s g = refl
+    by true false None true None s g = refl
+    by true false None false None s g = refl
+    by false false None true None s g = refl
+    by false false None false None s g = refl
+
 -- the records after the end of a domain
-pub calls_after_end : (s : System) (past : Past) (e : Entry) (d : ℕ) → IsAdmittedPast s past → EndsOne e d → call_records (e ∷ past) ≡ map (ended_call (owned_by past d) d) (call_records past)
+pub calls_after_end : (s : System) (past : Past) (e : Entry) (d : ℕ) → IsAdmittedPast s past → EndsOne e d → call_records (e ∷ past) ≡ map (ended_call (owned_by past d) d (length past)) (call_records past)
 unfolding call_records call_record answer_objects answer_kind
 calls_after_end s past e d a h =
     ap (λ (n : ℕ). map (call_record (e ∷ past)) (up_to n)) (count_same is_call e past h.call)
-    ∙ records_same (call_record (e ∷ past)) (λ c. ended_call (owned_by past d) d (call_record past c)) (calls_made past) (λ c l u.
+    ∙ records_same (call_record (e ∷ past)) (λ c. ended_call (owned_by past d) d (length past) (call_record past c)) (calls_made past) (λ c l u.
     call_record_made s e past c a l u (caller_lived s e past c a u)
     ∙ ap3 (λ (t : Bool) (o : Option Answer) (r : Bool). let item : CallRecord = record (call_record past c) {
       state = state_after_entry (call_state past c) t o r;
       carried = carried_after (call_state past c) (carried past c) t o (has_live_caller (e ∷ past) c && not r);
+      answered_at = place_after (answered_at past c) o (length past);
     } in item)
     (h.take c) (answer_at_end past e d c h l u) (h.resume c)
     ∙ ap (λ (b : Bool). let item : CallRecord = record (call_record past c) {
       state = state_after_entry (call_state past c) false (if owned_by past d (unwrap_or (service_of_call past c) 0) then Some Answer.Ended else None) false;
       carried = carried_after (call_state past c) (carried past c) false (if owned_by past d (unwrap_or (service_of_call past c) 0) then Some Answer.Ended else None) b;
+      answered_at = place_after (answered_at past c) (if owned_by past d (unwrap_or (service_of_call past c) 0) then Some Answer.Ended else None) (length past);
     } in item)
     (and_true (has_live_caller (e ∷ past) c) ∙ caller_at_end s past e d c a h l u)
-    ∙ ap2 (λ (x : CallState) (y : List ℕ). let item : CallRecord = record (call_record past c) { state = x; carried = y } in item)
+    ∙ ap3 (λ (x : CallState) (y : List ℕ) (w : Option ℕ). let item : CallRecord = record (call_record past c) { state = x; carried = y; answered_at = w } in item)
     (states (call_state past c) (owned_by past d (unwrap_or (service_of_call past c) 0)))
-    (carries (call_state past c) (owned_by past d (unwrap_or (service_of_call past c) 0)) (unwrap_or (caller_of past c) 0 == d) (has_live_caller past c) (carried past c) (dead_carries past c)))
-    ∙ map_map (ended_call (owned_by past d) d) (call_record past) (up_to (calls_made past))
+    (carries (call_state past c) (owned_by past d (unwrap_or (service_of_call past c) 0)) (unwrap_or (caller_of past c) 0 == d) (has_live_caller past c) (carried past c) (dead_carries past c))
+    (place_at_end s past c (owned_by past d (unwrap_or (service_of_call past c) 0)) (length past) a))
+    ∙ map_map (ended_call (owned_by past d) d (length past)) (call_record past) (up_to (calls_made past))
   where
     states : (x : CallState) (lost : Bool) → state_after_entry x false (if lost then Some Answer.Ended else None) false ≡ state_after_end lost x
     states call.Queued true = refl

@@ -8,11 +8,12 @@ use Rattle.jx_base.specs.Basics.{up_to}
 use Rattle.jx_base.specs.Histories.{Past}
 use Rattle.jx_model.specs.Calls.{Answer, Asked, is_call, calls_made, call_entry, caller_of, marked, answer_of, answered_by, is_taken, is_resumed, is_take_of, is_resume_of, is_queued, is_unanswered, has_live_caller, service_of_call, asked_of, asked_by, call_state, call_stage, waiting_calls, answer_kind}
 use Rattle.jx_model.specs.Holding.{carried, carried_by, asked_objects, answer_objects}
-use Rattle.jx_model.specs.Tables.{CallRecord, call_record, call_records, calling_thread}
+use Rattle.jx_model.specs.Tables.{queued_at, answered_at, CallRecord, call_record, call_records, calling_thread}
 use Rattle.jx_model.specs.Legal.{IsAdmittedPast}
 use Rattle.jx_base.proofs.BasicLaws.{ap2, ap3, and_true}
 use Rattle.jx_base.proofs.NthEntries.{nth_new, nth_there, count_new, count_same}
-use Rattle.jx_model.proofs.CallSteps.{since_new, taken_made, resumed_made, answer_made, entry_made, asked_made, service_made}
+use Rattle.history_rows.proofs.Places.{place_old, place_new}
+use Rattle.jx_model.proofs.CallSteps.{since_new, since_made, taken_made, resumed_made, answer_made, entry_made, asked_made, service_made}
 use Rattle.history_rows.proofs.Records.{records_same, records_more, records_set, records_get, records_length, filter_same, filter_more, filter_twice, or_false}
 use Rattle.history_rows.proofs.Stages.{resumed_answered}
 use Rattle.std.specs.Option.{option_and_then, option_map, unwrap_or}
@@ -38,13 +39,33 @@ carried_after call.Queued old take (Some a) awaited = if awaited then answer_obj
 carried_after call.Queued old true None awaited = []
 carried_after call.Queued old false None awaited = old
 
--- a call's record after an entry
-abbrev pub call_record_after : CallRecord → Bool → Option Answer → Bool → Bool → CallRecord
-call_record_after item take answer resume lives =
+-- the place of a call's answer after an entry that has that place
+abbrev pub place_after : Option ℕ → Option Answer → ℕ → Option ℕ
+place_after old answer at = elim old [ Some i ↦ Some i | None ↦ option_map (λ a. at) answer ]
+
+-- a call's record after an entry that has that place
+abbrev pub call_record_after : CallRecord → Bool → Option Answer → Bool → Bool → ℕ → CallRecord
+call_record_after item take answer resume lives at =
     record item {
       state = state_after_entry item.state take answer resume;
       carried = carried_after item.state item.carried take answer (lives && not resume);
+      answered_at = place_after item.answered_at answer at;
     }
+
+-- an entry that doesn't answer leaves the place
+pub place_kept : (old : Option ℕ) (at : ℕ) → place_after old None at ≡ old
+place_kept None at = refl
+place_kept (Some i) at = refl
+
+-- the place of the answer of a call that was queued before the entry
+pub answered_at_made : (e : Entry) (past : Past) (c : ℕ) → 1 ≤ c → c ≤ calls_made past → answered_at (e ∷ past) c ≡ place_after (answered_at past c) (answered_by past e c) (length past)
+unfolding answered_at
+answered_at_made e past c l u = since_made _ e past c l u
+
+-- and the place of the entry that queued it
+pub queued_at_made : (e : Entry) (past : Past) (c : ℕ) → c ≤ calls_made past → queued_at (e ∷ past) c ≡ queued_at past c
+unfolding queued_at
+queued_at_made e past c u = place_old is_call e past c u
 
 -- the state of a call that was queued before the entry
 pub call_state_made : (e : Entry) (past : Past) (c : ℕ) → 1 ≤ c → c ≤ calls_made past →
@@ -129,30 +150,37 @@ carried_made s e past c a l u lives =
 
 -- the record of a call that was queued before the entry
 pub call_record_made : (s : System) (e : Entry) (past : Past) (c : ℕ) → IsAdmittedPast s past → 1 ≤ c → c ≤ calls_made past → (has_live_caller (e ∷ past) c ≡ true → has_live_caller past c ≡ true) →
-    call_record (e ∷ past) c ≡ call_record_after (call_record past c) (is_take_of c e.act) (answered_by past e c) (is_resume_of c e.act) (has_live_caller (e ∷ past) c)
+    call_record (e ∷ past) c ≡ call_record_after (call_record past c) (is_take_of c e.act) (answered_by past e c) (is_resume_of c e.act) (has_live_caller (e ∷ past) c) (length past)
 unfolding call_record caller_of calling_thread
 call_record_made s e past c a l u lives =
-    ap2 (λ (x : Option Entry) (k : Option ℕ). let item : CallRecord = record {
+    ap2 (λ (q w : Option ℕ). let item : CallRecord = record (call_record (e ∷ past) c) { queued_at = unwrap_or q 0; answered_at = w } in item) (queued_at_made e past c u) (answered_at_made e past c l u)
+    ∙ ap2 (λ (x : Option Entry) (k : Option ℕ). let item : CallRecord = record {
       caller = unwrap_or (option_map (λ e. e.domain.0) x) 0;
       thread = unwrap_or (option_map (λ e. e.thread.0) x) 0;
       service = unwrap_or k 0;
       state = call_state (e ∷ past) c;
       carried = carried (e ∷ past) c;
+      queued_at = unwrap_or (queued_at past c) 0;
+      answered_at = place_after (answered_at past c) (answered_by past e c) (length past);
     } in item)
     (entry_made e past c u) (service_made e past c u)
-    ∙ ap2 (λ (x : CallState) (y : List ℕ). let item : CallRecord = record (call_record past c) { state = x; carried = y } in item) (call_state_made e past c l u) (carried_made s e past c a l u lives)
+    ∙ ap2 (λ (x : CallState) (y : List ℕ). let item : CallRecord = record (call_record past c) { state = x; carried = y; answered_at = place_after (answered_at past c) (answered_by past e c) (length past) } in item) (call_state_made e past c l u) (carried_made s e past c a l u lives)
 
 -- an entry that does nothing to a call, and leaves its caller alive or not, leaves its record
 pub call_record_same : (e : Entry) (past : Past) (c : ℕ) → 1 ≤ c → c ≤ calls_made past → is_take_of c e.act ≡ false → answered_by past e c ≡ None → is_resume_of c e.act ≡ false →
     has_live_caller (e ∷ past) c ≡ has_live_caller past c → call_record (e ∷ past) c ≡ call_record past c
 unfolding call_record caller_of calling_thread carried is_queued is_unanswered call_state
 call_record_same e past c l u t n r v =
-    ap2 (λ (x : Option Entry) (k : Option Asked). let item : CallRecord = record {
+    ap2 (λ (q w : Option ℕ). let item : CallRecord = record (call_record (e ∷ past) c) { queued_at = unwrap_or q 0; answered_at = w } in item) (queued_at_made e past c u)
+    (answered_at_made e past c l u ∙ ap (λ (x : Option Answer). place_after (answered_at past c) x (length past)) n ∙ place_kept (answered_at past c) (length past))
+    ∙ ap2 (λ (x : Option Entry) (k : Option Asked). let item : CallRecord = record {
       caller = unwrap_or (option_map (λ e. e.domain.0) x) 0;
       thread = unwrap_or (option_map (λ e. e.thread.0) x) 0;
       service = unwrap_or (service_of_call (e ∷ past) c) 0;
       state = call_state (e ∷ past) c;
       carried = carried_by (is_queued (e ∷ past) c) (has_live_caller (e ∷ past) c && not (is_resumed (e ∷ past) c)) k (answer_of (e ∷ past) c);
+      queued_at = unwrap_or (queued_at past c) 0;
+      answered_at = answered_at past c;
     } in item)
     (entry_made e past c u) (asked_made e past c u)
     ∙ ap2 (λ (k : Option ℕ) (b : Bool). let item : CallRecord = record (call_record past c) {
@@ -179,15 +207,18 @@ call_record_same e past c l u t n r v =
 
 -- the record of the call that an entry makes
 pub call_record_new : (e : Entry) (past : Past) (a : Asked) → is_call e ≡ true → asked_by e.act ≡ Some a →
-    call_record (e ∷ past) (calls_made past + 1) ≡ record { caller = e.domain.0; thread = e.thread.0; service = a.service.0; state = call.Queued; carried = asked_objects (Some a) }
-unfolding call_record caller_of calling_thread carried is_queued is_unanswered call_state is_resumed is_taken answer_of service_of_call asked_of call_entry call_stage carried_by
+    call_record (e ∷ past) (calls_made past + 1) ≡ record { caller = e.domain.0; thread = e.thread.0; service = a.service.0; state = call.Queued; carried = asked_objects (Some a); queued_at = length past; answered_at = None }
+unfolding call_record caller_of calling_thread carried is_queued is_unanswered call_state is_resumed is_taken answer_of service_of_call asked_of call_entry call_stage carried_by queued_at answered_at
 call_record_new e past a h q =
-    ap3 (λ (x : Option Entry) (r : Option (Unit {0})) (o : Option Answer). let item : CallRecord = record {
+    ap2 (λ (q w : Option ℕ). let item : CallRecord = record (call_record (e ∷ past) n) { queued_at = unwrap_or q 0; answered_at = w } in item) (place_new is_call e past h) (since_new _ e past n (omega arith))
+    ∙ ap3 (λ (x : Option Entry) (r : Option (Unit {0})) (o : Option Answer). let item : CallRecord = record {
       caller = unwrap_or (option_map (λ e. e.domain.0) x) 0;
       thread = unwrap_or (option_map (λ e. e.thread.0) x) 0;
       service = unwrap_or (option_map (λ a. a.service.0) (option_and_then (λ e. asked_by e.act) x)) 0;
       state = call_stage (is_some r) o (is_taken (e ∷ past) n);
       carried = carried_by (is_some x && is_none o && not (is_taken (e ∷ past) n)) (has_live_caller (e ∷ past) n && not (is_some r)) (option_and_then (λ e. asked_by e.act) x) o;
+      queued_at = length past;
+      answered_at = None;
     } in item)
     (nth_new is_call e past n h refl) (since_new (λ before e. marked (is_resume_of n e.act)) e past n (omega arith)) (since_new (λ before e. answered_by before e n) e past n (omega arith))
     ∙ ap2 (λ (t : Option (Unit {0})) (k : Option Asked). let item : CallRecord = record {
@@ -196,6 +227,8 @@ call_record_new e past a h q =
       service = unwrap_or (option_map (λ a. a.service.0) k) 0;
       state = call_stage false None (is_some t);
       carried = carried_by (not (is_some t)) (has_live_caller (e ∷ past) n && true) k None;
+      queued_at = length past;
+      answered_at = None;
     } in item)
     (since_new (λ before e. marked (is_take_of n e.act)) e past n (omega arith)) q
   where

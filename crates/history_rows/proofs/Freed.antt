@@ -32,7 +32,7 @@ use Rattle.history_rows.proofs.Records.{any_append, any_at, any_found}
 use Rattle.history_rows.proofs.Actors.{live_made}
 use Rattle.history_rows.proofs.Absent.{absent}
 use Rattle.history_rows.proofs.InUse.{in_use_made}
-use Rattle.history_rows.proofs.Parts.{get_left}
+use Rattle.history_rows.proofs.Records.{get_left}
 use Rattle.history_rows.proofs.Granules.{Owner, HeapOf, ExtentOf, is_owner_used, Holds, any_run, granules_freed}
 use Rattle.std.specs.Option.{option_and_then, option_map}
 

@@ -17,21 +17,10 @@ use Rattle.jx_model.specs.Replies.{reply_to, with_object, ◌refuses◌else◌}
 use Rattle.jx_model.specs.Legal.{IsNext, IsAdmittedPast}
 use Rattle.jx_base.proofs.BasicLaws.{ap2, and_true}
 use Rattle.jx_base.proofs.NthEntries.{count_new, count_grows}
+use Rattle.history_rows.proofs.Records.{get_left, get_right}
 use Rattle.history_rows.proofs.Uses.{undone, turned}
 
 -- ---- parts
-
--- an item of a list with more behind it
-pub get_left : {A : Type 0} (xs ys : List A) (i : ℕ) → i < length xs → slice_get (xs ++ ys) i ≡ slice_get xs i
-get_left [] ys i l = absurd (omega (arith, l))
-get_left (x ∷ xs) ys zero l = refl
-get_left (x ∷ xs) ys (suc i) l = get_left xs ys i (omega (arith, l))
-
--- an item behind a list
-pub get_right : {A : Type 0} (xs ys : List A) (i j : ℕ) → j ≡ length xs + i → slice_get (xs ++ ys) j ≡ slice_get ys i
-get_right [] ys i j q = ap (slice_get ys) (omega (arith, q))
-get_right (x ∷ xs) ys i zero q = absurd (omega (arith, q))
-get_right (x ∷ xs) ys i (suc j) q = get_right xs ys i j (omega (arith, q))
 
 -- an object that was made keeps its part
 pub part_old : (e : Entry) (past : Past) (m : ℕ) → m ≤ objects_made past → object_part (e ∷ past) m ≡ object_part past m

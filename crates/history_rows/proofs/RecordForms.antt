@@ -35,11 +35,11 @@ map_tests f g [] h = refl
 map_tests {B = B} f g (x ∷ xs) h = ap2 (λ (y : B) (ys : List B). y ∷ ys) (h x) (map_tests f g xs h)
 
 -- the calls' records after the end of a domain, by the services' records
-pub ended_calls_by_records : (s : System) (past : Past) (d : ℕ) (calls : List CallRecord) → map (ended_call (owned_by past d) d) calls ≡ map (ended_call (λ k. is_number (owner_in (service_records s past) k) d) d) calls
-ended_calls_by_records s past d calls = map_tests (ended_call (owned_by past d) d) (ended_call (λ k. is_number (owner_in (service_records s past) k) d) d) calls (λ item. ended item (owned_by_record s past d item.service))
+pub ended_calls_by_records : (s : System) (past : Past) (d at : ℕ) (calls : List CallRecord) → map (ended_call (owned_by past d) d at) calls ≡ map (ended_call (λ k. is_number (owner_in (service_records s past) k) d) d at) calls
+ended_calls_by_records s past d at calls = map_tests (ended_call (owned_by past d) d at) (ended_call (λ k. is_number (owner_in (service_records s past) k) d) d at) calls (λ item. ended item (owned_by_record s past d item.service))
   where
-    ended : (item : CallRecord) → owned_by past d item.service ≡ is_number (owner_in (service_records s past) item.service) d → ended_call (owned_by past d) d item ≡ ended_call (λ k. is_number (owner_in (service_records s past) k) d) d item
-    ended item q = ap (λ (b : Bool). ended_call (λ k. b) d item) q
+    ended : (item : CallRecord) → owned_by past d item.service ≡ is_number (owner_in (service_records s past) item.service) d → ended_call (owned_by past d) d at item ≡ ended_call (λ k. is_number (owner_in (service_records s past) k) d) d at item
+    ended item q = ap (λ (b : Bool). ended_call (λ k. b) d at item) q
 
 zero_owner : (past : Past) (d : ℕ) → owned_by past d 0 ≡ false
 unfolding owner_of is_number

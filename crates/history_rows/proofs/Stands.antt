@@ -182,7 +182,7 @@ stands_after_lookup s k d t name v c h n =
 
 -- a call that is queued
 pub stands_after_call : (s : System) (k : Kept) (d t : ℕ) (v : ServiceId) (m : MethodId) (p : Parcel) (c : CallId) → StandsFor s k → IsNext s k.past (entry d t (act.Call v m p) (reply.Queued c)) →
-    StandsFor s (record (with_entry k (entry d t (act.Call v m p) (reply.Queued c))) { threads = own_changed d t (λ item. thread_record_after item (act.Call v m p) (reply.Queued c)) k.threads; calls = (k.calls ++ (record { caller = d; thread = t; service = v.0; state = call.Queued; carried = parcel_objects p }) ∷ []); waiting = k.waiting ++ (length k.calls + 1) ∷ []; objects = each_record (object_record_after (entry d t (act.Call v m p) (reply.Queued c)) k.parts (k.calls ++ (record { caller = d; thread = t; service = v.0; state = call.Queued; carried = parcel_objects p }) ∷ [])) k.objects })
+    StandsFor s (record (with_entry k (entry d t (act.Call v m p) (reply.Queued c))) { threads = own_changed d t (λ item. thread_record_after item (act.Call v m p) (reply.Queued c)) k.threads; calls = (k.calls ++ (record { caller = d; thread = t; service = v.0; state = call.Queued; carried = parcel_objects p; queued_at = length k.past; answered_at = None }) ∷ []); waiting = k.waiting ++ (length k.calls + 1) ∷ []; objects = each_record (object_record_after (entry d t (act.Call v m p) (reply.Queued c)) k.parts (k.calls ++ (record { caller = d; thread = t; service = v.0; state = call.Queued; carried = parcel_objects p; queued_at = length k.past; answered_at = None }) ∷ [])) k.objects })
 unfolding is_birth makes_domain ended_by ended_by_act is_export exported_interface received_service received_parcel bound_by_act is_call asked_by queued_as is_take_of is_resume_of answered_by_act new_parts received_objects objects_in is_drop_of ended_object is_allocation makes_extent is_done new_threads is_choice
 stands_after_call s k d t v m p c h n =
     record {
@@ -194,10 +194,10 @@ stands_after_call s k d t v m p c h n =
       threads = ap (own_changed d t (λ item. thread_record_after item (act.Call v m p) (reply.Queued c))) h.threads ∙ sym (threads_stepped s k.past (entry d t (act.Call v m p) (reply.Queued c)) n refl refl);
       services = keeps_services s k (entry d t (act.Call v m p) (reply.Queued c)) h n (record { export = refl; service = refl; parcel = refl; bind = λ x. refl }) refl;
       names = keeps_names s k (entry d t (act.Call v m p) (reply.Queued c)) h n (λ x. refl);
-      calls = (ap (λ (xs : List CallRecord). xs ++ (record { caller = d; thread = t; service = v.0; state = call.Queued; carried = parcel_objects p }) ∷ []) h.calls ∙ sym (calls_after_call s k.past h.admitted d t v m p c));
+      calls = (ap (λ (xs : List CallRecord). xs ++ (record { caller = d; thread = t; service = v.0; state = call.Queued; carried = parcel_objects p; queued_at = length k.past; answered_at = None }) ∷ []) h.calls ∙ sym (calls_after_call s k.past h.admitted d t v m p c));
       waiting = ap2 (λ (xs : List ℕ) (i : ℕ). xs ++ (i + 1) ∷ []) h.waiting (ap length h.calls ∙ calls_counted k.past) ∙ sym (waiting_after_call s k.past h.admitted d t v m p c);
       parts = keeps_parts s k (entry d t (act.Call v m p) (reply.Queued c)) h n refl;
-      objects = objects_stepped s k (entry d t (act.Call v m p) (reply.Queued c)) h n (k.calls ++ (record { caller = d; thread = t; service = v.0; state = call.Queued; carried = parcel_objects p }) ∷ []) refl (ap (λ (xs : List CallRecord). xs ++ (record { caller = d; thread = t; service = v.0; state = call.Queued; carried = parcel_objects p }) ∷ []) h.calls ∙ sym (calls_after_call s k.past h.admitted d t v m p c));
+      objects = objects_stepped s k (entry d t (act.Call v m p) (reply.Queued c)) h n (k.calls ++ (record { caller = d; thread = t; service = v.0; state = call.Queued; carried = parcel_objects p; queued_at = length k.past; answered_at = None }) ∷ []) refl (ap (λ (xs : List CallRecord). xs ++ (record { caller = d; thread = t; service = v.0; state = call.Queued; carried = parcel_objects p; queued_at = length k.past; answered_at = None }) ∷ []) h.calls ∙ sym (calls_after_call s k.past h.admitted d t v m p c));
       extents = keeps_extents s k (entry d t (act.Call v m p) (reply.Queued c)) h n refl refl (λ x. refl) refl;
       taken = keeps_taken s k (entry d t (act.Call v m p) (reply.Queued c)) h n (record { birth = refl; ends = refl }) refl (λ x. refl);
     }
@@ -226,7 +226,7 @@ stands_after_take s k d t c r i h n q =
 
 -- a return, done or refused
 pub stands_after_return : (s : System) (k : Kept) (d t : ℕ) (c : CallId) (p : Parcel) (r : Reply) (i : ℕ) → StandsFor s k → IsNext s k.past (entry d t (act.Return c p) r) → c.0 ≡ i + 1 →
-    StandsFor s (record (with_entry k (entry d t (act.Return c p) r)) { threads = own_changed d t (λ item. thread_record_after item (act.Return c p) r) k.threads; calls = (changed_at i (λ item. record item { state = call.Answered (answer_kind (answer_by_reply r (Answer.Value p))); carried = answer_objects (Some (answer_by_reply r (Answer.Value p))) }) k.calls); objects = each_record (object_record_after (entry d t (act.Return c p) r) k.parts (changed_at i (λ item. record item { state = call.Answered (answer_kind (answer_by_reply r (Answer.Value p))); carried = answer_objects (Some (answer_by_reply r (Answer.Value p))) }) k.calls)) k.objects })
+    StandsFor s (record (with_entry k (entry d t (act.Return c p) r)) { threads = own_changed d t (λ item. thread_record_after item (act.Return c p) r) k.threads; calls = (changed_at i (λ item. record item { state = call.Answered (answer_kind (answer_by_reply r (Answer.Value p))); carried = answer_objects (Some (answer_by_reply r (Answer.Value p))); answered_at = Some (length k.past) }) k.calls); objects = each_record (object_record_after (entry d t (act.Return c p) r) k.parts (changed_at i (λ item. record item { state = call.Answered (answer_kind (answer_by_reply r (Answer.Value p))); carried = answer_objects (Some (answer_by_reply r (Answer.Value p))); answered_at = Some (length k.past) }) k.calls)) k.objects })
 unfolding is_birth makes_domain ended_by ended_by_act is_export exported_interface received_service received_parcel bound_by_act is_call asked_by queued_as is_take_of is_resume_of answered_by_act new_parts received_objects objects_in is_drop_of ended_object is_allocation makes_extent is_done new_threads is_choice reply_to
 stands_after_return s k d t c p r i h n q =
     record {
@@ -238,17 +238,17 @@ stands_after_return s k d t c p r i h n q =
       threads = ap (own_changed d t (λ item. thread_record_after item (act.Return c p) r)) h.threads ∙ sym (threads_stepped s k.past (entry d t (act.Return c p) r) n refl refl);
       services = keeps_services s k (entry d t (act.Return c p) r) h n (record { export = refl; service = refl; parcel = refl; bind = λ x. refl }) refl;
       names = keeps_names s k (entry d t (act.Return c p) r) h n (λ x. refl);
-      calls = (ap (changed_at i (λ (item : CallRecord). record item { state = call.Answered (answer_kind (answer_by_reply r (Answer.Value p))); carried = answer_objects (Some (answer_by_reply r (Answer.Value p))) })) h.calls ∙ sym (set_changed i (λ (item : CallRecord). record item { state = call.Answered (answer_kind (answer_by_reply r (Answer.Value p))); carried = answer_objects (Some (answer_by_reply r (Answer.Value p))) }) (call_records k.past) (call_record k.past c.0) (call_record_there k.past c.0 i q (returns_running s k.past d t c p h.admitted n.thread).high)) ∙ sym (calls_after_answer s k.past (entry d t (act.Return c p) r) c.0 i (answer_by_reply r (Answer.Value p)) h.admitted (return_answers k.past d t c p r) q (returns_running s k.past d t c p h.admitted n.thread) ∙ ap (λ (ys : List ℕ). set (call_records k.past) i (let item : CallRecord = record (call_record k.past c.0) { state = call.Answered (answer_kind (answer_by_reply r (Answer.Value p))); carried = ys } in item)) (sent_objects s k.past d c.0 p r (Answer.Value p) n.reply)));
+      calls = (ap (changed_at i (λ (item : CallRecord). record item { state = call.Answered (answer_kind (answer_by_reply r (Answer.Value p))); carried = answer_objects (Some (answer_by_reply r (Answer.Value p))); answered_at = Some (length k.past) })) h.calls ∙ sym (set_changed i (λ (item : CallRecord). record item { state = call.Answered (answer_kind (answer_by_reply r (Answer.Value p))); carried = answer_objects (Some (answer_by_reply r (Answer.Value p))); answered_at = Some (length k.past) }) (call_records k.past) (call_record k.past c.0) (call_record_there k.past c.0 i q (returns_running s k.past d t c p h.admitted n.thread).high)) ∙ sym (calls_after_answer s k.past (entry d t (act.Return c p) r) c.0 i (answer_by_reply r (Answer.Value p)) h.admitted (return_answers k.past d t c p r) q (returns_running s k.past d t c p h.admitted n.thread) ∙ ap (λ (ys : List ℕ). set (call_records k.past) i (let item : CallRecord = record (call_record k.past c.0) { state = call.Answered (answer_kind (answer_by_reply r (Answer.Value p))); carried = ys; answered_at = Some (length k.past) } in item)) (sent_objects s k.past d c.0 p r (Answer.Value p) n.reply)));
       waiting = h.waiting ∙ sym (waiting_after_answer k.past (entry d t (act.Return c p) r) c.0 (answer_by_reply r (Answer.Value p)) (return_answers k.past d t c p r) (running_not_queued k.past c.0 (returns_running s k.past d t c p h.admitted n.thread).state));
       parts = keeps_parts s k (entry d t (act.Return c p) r) h n refl;
-      objects = objects_stepped s k (entry d t (act.Return c p) r) h n (changed_at i (λ item. record item { state = call.Answered (answer_kind (answer_by_reply r (Answer.Value p))); carried = answer_objects (Some (answer_by_reply r (Answer.Value p))) }) k.calls) refl (ap (changed_at i (λ (item : CallRecord). record item { state = call.Answered (answer_kind (answer_by_reply r (Answer.Value p))); carried = answer_objects (Some (answer_by_reply r (Answer.Value p))) })) h.calls ∙ sym (set_changed i (λ (item : CallRecord). record item { state = call.Answered (answer_kind (answer_by_reply r (Answer.Value p))); carried = answer_objects (Some (answer_by_reply r (Answer.Value p))) }) (call_records k.past) (call_record k.past c.0) (call_record_there k.past c.0 i q (returns_running s k.past d t c p h.admitted n.thread).high)) ∙ sym (calls_after_answer s k.past (entry d t (act.Return c p) r) c.0 i (answer_by_reply r (Answer.Value p)) h.admitted (return_answers k.past d t c p r) q (returns_running s k.past d t c p h.admitted n.thread) ∙ ap (λ (ys : List ℕ). set (call_records k.past) i (let item : CallRecord = record (call_record k.past c.0) { state = call.Answered (answer_kind (answer_by_reply r (Answer.Value p))); carried = ys } in item)) (sent_objects s k.past d c.0 p r (Answer.Value p) n.reply)));
+      objects = objects_stepped s k (entry d t (act.Return c p) r) h n (changed_at i (λ item. record item { state = call.Answered (answer_kind (answer_by_reply r (Answer.Value p))); carried = answer_objects (Some (answer_by_reply r (Answer.Value p))); answered_at = Some (length k.past) }) k.calls) refl (ap (changed_at i (λ (item : CallRecord). record item { state = call.Answered (answer_kind (answer_by_reply r (Answer.Value p))); carried = answer_objects (Some (answer_by_reply r (Answer.Value p))); answered_at = Some (length k.past) })) h.calls ∙ sym (set_changed i (λ (item : CallRecord). record item { state = call.Answered (answer_kind (answer_by_reply r (Answer.Value p))); carried = answer_objects (Some (answer_by_reply r (Answer.Value p))); answered_at = Some (length k.past) }) (call_records k.past) (call_record k.past c.0) (call_record_there k.past c.0 i q (returns_running s k.past d t c p h.admitted n.thread).high)) ∙ sym (calls_after_answer s k.past (entry d t (act.Return c p) r) c.0 i (answer_by_reply r (Answer.Value p)) h.admitted (return_answers k.past d t c p r) q (returns_running s k.past d t c p h.admitted n.thread) ∙ ap (λ (ys : List ℕ). set (call_records k.past) i (let item : CallRecord = record (call_record k.past c.0) { state = call.Answered (answer_kind (answer_by_reply r (Answer.Value p))); carried = ys; answered_at = Some (length k.past) } in item)) (sent_objects s k.past d c.0 p r (Answer.Value p) n.reply)));
       extents = keeps_extents s k (entry d t (act.Return c p) r) h n refl refl (λ x. and_false (is_done r)) (and_false (is_done r));
       taken = keeps_taken s k (entry d t (act.Return c p) r) h n (record { birth = refl; ends = refl }) refl (λ x. and_false (is_done r));
     }
 
 -- a throw, done or refused
 pub stands_after_throw : (s : System) (k : Kept) (d t : ℕ) (c : CallId) (p : Parcel) (r : Reply) (i : ℕ) → StandsFor s k → IsNext s k.past (entry d t (act.Throw c p) r) → c.0 ≡ i + 1 →
-    StandsFor s (record (with_entry k (entry d t (act.Throw c p) r)) { threads = own_changed d t (λ item. thread_record_after item (act.Throw c p) r) k.threads; calls = (changed_at i (λ item. record item { state = call.Answered (answer_kind (answer_by_reply r (thrown p))); carried = answer_objects (Some (answer_by_reply r (thrown p))) }) k.calls); objects = each_record (object_record_after (entry d t (act.Throw c p) r) k.parts (changed_at i (λ item. record item { state = call.Answered (answer_kind (answer_by_reply r (thrown p))); carried = answer_objects (Some (answer_by_reply r (thrown p))) }) k.calls)) k.objects })
+    StandsFor s (record (with_entry k (entry d t (act.Throw c p) r)) { threads = own_changed d t (λ item. thread_record_after item (act.Throw c p) r) k.threads; calls = (changed_at i (λ item. record item { state = call.Answered (answer_kind (answer_by_reply r (thrown p))); carried = answer_objects (Some (answer_by_reply r (thrown p))); answered_at = Some (length k.past) }) k.calls); objects = each_record (object_record_after (entry d t (act.Throw c p) r) k.parts (changed_at i (λ item. record item { state = call.Answered (answer_kind (answer_by_reply r (thrown p))); carried = answer_objects (Some (answer_by_reply r (thrown p))); answered_at = Some (length k.past) }) k.calls)) k.objects })
 unfolding is_birth makes_domain ended_by ended_by_act is_export exported_interface received_service received_parcel bound_by_act is_call asked_by queued_as is_take_of is_resume_of answered_by_act new_parts received_objects objects_in is_drop_of ended_object is_allocation makes_extent is_done new_threads is_choice reply_to
 stands_after_throw s k d t c p r i h n q =
     record {
@@ -260,10 +260,10 @@ stands_after_throw s k d t c p r i h n q =
       threads = ap (own_changed d t (λ item. thread_record_after item (act.Throw c p) r)) h.threads ∙ sym (threads_stepped s k.past (entry d t (act.Throw c p) r) n refl refl);
       services = keeps_services s k (entry d t (act.Throw c p) r) h n (record { export = refl; service = refl; parcel = refl; bind = λ x. refl }) refl;
       names = keeps_names s k (entry d t (act.Throw c p) r) h n (λ x. refl);
-      calls = (ap (changed_at i (λ (item : CallRecord). record item { state = call.Answered (answer_kind (answer_by_reply r (thrown p))); carried = answer_objects (Some (answer_by_reply r (thrown p))) })) h.calls ∙ sym (set_changed i (λ (item : CallRecord). record item { state = call.Answered (answer_kind (answer_by_reply r (thrown p))); carried = answer_objects (Some (answer_by_reply r (thrown p))) }) (call_records k.past) (call_record k.past c.0) (call_record_there k.past c.0 i q (throws_running s k.past d t c p h.admitted n.thread).high)) ∙ sym (calls_after_answer s k.past (entry d t (act.Throw c p) r) c.0 i (answer_by_reply r (thrown p)) h.admitted (throw_answers k.past d t c p r) q (throws_running s k.past d t c p h.admitted n.thread) ∙ ap (λ (ys : List ℕ). set (call_records k.past) i (let item : CallRecord = record (call_record k.past c.0) { state = call.Answered (answer_kind (answer_by_reply r (thrown p))); carried = ys } in item)) (sent_objects s k.past d c.0 p r (thrown p) n.reply)));
+      calls = (ap (changed_at i (λ (item : CallRecord). record item { state = call.Answered (answer_kind (answer_by_reply r (thrown p))); carried = answer_objects (Some (answer_by_reply r (thrown p))); answered_at = Some (length k.past) })) h.calls ∙ sym (set_changed i (λ (item : CallRecord). record item { state = call.Answered (answer_kind (answer_by_reply r (thrown p))); carried = answer_objects (Some (answer_by_reply r (thrown p))); answered_at = Some (length k.past) }) (call_records k.past) (call_record k.past c.0) (call_record_there k.past c.0 i q (throws_running s k.past d t c p h.admitted n.thread).high)) ∙ sym (calls_after_answer s k.past (entry d t (act.Throw c p) r) c.0 i (answer_by_reply r (thrown p)) h.admitted (throw_answers k.past d t c p r) q (throws_running s k.past d t c p h.admitted n.thread) ∙ ap (λ (ys : List ℕ). set (call_records k.past) i (let item : CallRecord = record (call_record k.past c.0) { state = call.Answered (answer_kind (answer_by_reply r (thrown p))); carried = ys; answered_at = Some (length k.past) } in item)) (sent_objects s k.past d c.0 p r (thrown p) n.reply)));
       waiting = h.waiting ∙ sym (waiting_after_answer k.past (entry d t (act.Throw c p) r) c.0 (answer_by_reply r (thrown p)) (throw_answers k.past d t c p r) (running_not_queued k.past c.0 (throws_running s k.past d t c p h.admitted n.thread).state));
       parts = keeps_parts s k (entry d t (act.Throw c p) r) h n refl;
-      objects = objects_stepped s k (entry d t (act.Throw c p) r) h n (changed_at i (λ item. record item { state = call.Answered (answer_kind (answer_by_reply r (thrown p))); carried = answer_objects (Some (answer_by_reply r (thrown p))) }) k.calls) refl (ap (changed_at i (λ (item : CallRecord). record item { state = call.Answered (answer_kind (answer_by_reply r (thrown p))); carried = answer_objects (Some (answer_by_reply r (thrown p))) })) h.calls ∙ sym (set_changed i (λ (item : CallRecord). record item { state = call.Answered (answer_kind (answer_by_reply r (thrown p))); carried = answer_objects (Some (answer_by_reply r (thrown p))) }) (call_records k.past) (call_record k.past c.0) (call_record_there k.past c.0 i q (throws_running s k.past d t c p h.admitted n.thread).high)) ∙ sym (calls_after_answer s k.past (entry d t (act.Throw c p) r) c.0 i (answer_by_reply r (thrown p)) h.admitted (throw_answers k.past d t c p r) q (throws_running s k.past d t c p h.admitted n.thread) ∙ ap (λ (ys : List ℕ). set (call_records k.past) i (let item : CallRecord = record (call_record k.past c.0) { state = call.Answered (answer_kind (answer_by_reply r (thrown p))); carried = ys } in item)) (sent_objects s k.past d c.0 p r (thrown p) n.reply)));
+      objects = objects_stepped s k (entry d t (act.Throw c p) r) h n (changed_at i (λ item. record item { state = call.Answered (answer_kind (answer_by_reply r (thrown p))); carried = answer_objects (Some (answer_by_reply r (thrown p))); answered_at = Some (length k.past) }) k.calls) refl (ap (changed_at i (λ (item : CallRecord). record item { state = call.Answered (answer_kind (answer_by_reply r (thrown p))); carried = answer_objects (Some (answer_by_reply r (thrown p))); answered_at = Some (length k.past) })) h.calls ∙ sym (set_changed i (λ (item : CallRecord). record item { state = call.Answered (answer_kind (answer_by_reply r (thrown p))); carried = answer_objects (Some (answer_by_reply r (thrown p))); answered_at = Some (length k.past) }) (call_records k.past) (call_record k.past c.0) (call_record_there k.past c.0 i q (throws_running s k.past d t c p h.admitted n.thread).high)) ∙ sym (calls_after_answer s k.past (entry d t (act.Throw c p) r) c.0 i (answer_by_reply r (thrown p)) h.admitted (throw_answers k.past d t c p r) q (throws_running s k.past d t c p h.admitted n.thread) ∙ ap (λ (ys : List ℕ). set (call_records k.past) i (let item : CallRecord = record (call_record k.past c.0) { state = call.Answered (answer_kind (answer_by_reply r (thrown p))); carried = ys; answered_at = Some (length k.past) } in item)) (sent_objects s k.past d c.0 p r (thrown p) n.reply)));
       extents = keeps_extents s k (entry d t (act.Throw c p) r) h n refl refl (λ x. and_false (is_done r)) (and_false (is_done r));
       taken = keeps_taken s k (entry d t (act.Throw c p) r) h n (record { birth = refl; ends = refl }) refl (λ x. and_false (is_done r));
     }
@@ -537,7 +537,7 @@ stands_after_release s k d t m h n =
 
 -- an exit
 pub stands_after_exit : (s : System) (k : Kept) (d t : ℕ) (code : ℤ) (r : Reply) (i : ℕ) → StandsFor s k → IsNext s k.past (entry d t (act.Exit code) r) → d ≡ i + 1 →
-    StandsFor s (record (with_entry k (entry d t (act.Exit code) r)) { domains = changed_at i (λ item. record item { ended = Some (reason.Exit code) }) k.domains; services = each_record (λ nth item. record item { holders = portals_after (entry d t (act.Exit code) r) nth item.holders }) k.services; calls = (map (ended_call (owned_by k.past d) d) k.calls); waiting = filter (λ c. not (owned_by k.past d (unwrap_or (service_of_call k.past c) 0))) k.waiting; objects = (each_record (object_record_after (entry d t (act.Exit code) r) k.parts (map (ended_call (owned_by k.past d) d) k.calls)) k.objects); extents = each_record (λ x item. record item { bytes = if in_use_by k.parts (each_record (object_record_after (entry d t (act.Exit code) r) k.parts (map (ended_call (owned_by k.past d) d) k.calls)) k.objects) x then item.bytes else None }) k.extents; taken = each_from (λ i used. used && not (lies_in_one (freed_runs s (entry d t (act.Exit code) r) k.past) i)) 0 k.taken })
+    StandsFor s (record (with_entry k (entry d t (act.Exit code) r)) { domains = changed_at i (λ item. record item { ended = Some (reason.Exit code) }) k.domains; services = each_record (λ nth item. record item { holders = portals_after (entry d t (act.Exit code) r) nth item.holders }) k.services; calls = (map (ended_call (owned_by k.past d) d (length k.past)) k.calls); waiting = filter (λ c. not (owned_by k.past d (unwrap_or (service_of_call k.past c) 0))) k.waiting; objects = (each_record (object_record_after (entry d t (act.Exit code) r) k.parts (map (ended_call (owned_by k.past d) d (length k.past)) k.calls)) k.objects); extents = each_record (λ x item. record item { bytes = if in_use_by k.parts (each_record (object_record_after (entry d t (act.Exit code) r) k.parts (map (ended_call (owned_by k.past d) d (length k.past)) k.calls)) k.objects) x then item.bytes else None }) k.extents; taken = each_from (λ i used. used && not (lies_in_one (freed_runs s (entry d t (act.Exit code) r) k.past) i)) 0 k.taken })
 unfolding is_birth makes_domain ended_by ended_by_act is_export exported_interface received_service received_parcel bound_by_act is_call asked_by queued_as is_take_of is_resume_of answered_by_act new_parts received_objects objects_in is_drop_of ended_object is_allocation makes_extent is_done new_threads is_choice
 stands_after_exit s k d t code r i h n q =
     record {
@@ -549,17 +549,17 @@ stands_after_exit s k d t code r i h n q =
       threads = h.threads ∙ sym (threads_left s k.past (entry d t (act.Exit code) r) n refl refl refl refl);
       services = services_stepped s k (entry d t (act.Exit code) r) h n refl;
       names = keeps_names s k (entry d t (act.Exit code) r) h n (λ x. refl);
-      calls = (ap (map (ended_call (owned_by k.past d) d)) h.calls ∙ sym (calls_after_end s k.past (entry d t (act.Exit code) r) d h.admitted (record { why = (reason.Exit code); ends = refl; call = refl; take = λ x. refl; resume = λ x. refl; answer = λ x. refl })));
+      calls = (ap (map (ended_call (owned_by k.past d) d (length k.past))) h.calls ∙ sym (calls_after_end s k.past (entry d t (act.Exit code) r) d h.admitted (record { why = (reason.Exit code); ends = refl; call = refl; take = λ x. refl; resume = λ x. refl; answer = λ x. refl })));
       waiting = ap (filter (λ c. not (owned_by k.past d (unwrap_or (service_of_call k.past c) 0)))) h.waiting ∙ sym (waiting_after_end k.past (entry d t (act.Exit code) r) d (record { why = (reason.Exit code); ends = refl; call = refl; take = λ x. refl; resume = λ x. refl; answer = λ x. refl }));
       parts = keeps_parts s k (entry d t (act.Exit code) r) h n refl;
-      objects = (objects_stepped s k (entry d t (act.Exit code) r) h n (map (ended_call (owned_by k.past d) d) k.calls) refl (ap (map (ended_call (owned_by k.past d) d)) h.calls ∙ sym (calls_after_end s k.past (entry d t (act.Exit code) r) d h.admitted (record { why = (reason.Exit code); ends = refl; call = refl; take = λ x. refl; resume = λ x. refl; answer = λ x. refl }))));
-      extents = extents_stepped s k (entry d t (act.Exit code) r) h n k.parts (each_record (object_record_after (entry d t (act.Exit code) r) k.parts (map (ended_call (owned_by k.past d) d) k.calls)) k.objects) refl (and_false (is_done r)) (keeps_parts s k (entry d t (act.Exit code) r) h n refl) (objects_stepped s k (entry d t (act.Exit code) r) h n (map (ended_call (owned_by k.past d) d) k.calls) refl (ap (map (ended_call (owned_by k.past d) d)) h.calls ∙ sym (calls_after_end s k.past (entry d t (act.Exit code) r) d h.admitted (record { why = (reason.Exit code); ends = refl; call = refl; take = λ x. refl; resume = λ x. refl; answer = λ x. refl }))));
+      objects = (objects_stepped s k (entry d t (act.Exit code) r) h n (map (ended_call (owned_by k.past d) d (length k.past)) k.calls) refl (ap (map (ended_call (owned_by k.past d) d (length k.past))) h.calls ∙ sym (calls_after_end s k.past (entry d t (act.Exit code) r) d h.admitted (record { why = (reason.Exit code); ends = refl; call = refl; take = λ x. refl; resume = λ x. refl; answer = λ x. refl }))));
+      extents = extents_stepped s k (entry d t (act.Exit code) r) h n k.parts (each_record (object_record_after (entry d t (act.Exit code) r) k.parts (map (ended_call (owned_by k.past d) d (length k.past)) k.calls)) k.objects) refl (and_false (is_done r)) (keeps_parts s k (entry d t (act.Exit code) r) h n refl) (objects_stepped s k (entry d t (act.Exit code) r) h n (map (ended_call (owned_by k.past d) d (length k.past)) k.calls) refl (ap (map (ended_call (owned_by k.past d) d (length k.past))) h.calls ∙ sym (calls_after_end s k.past (entry d t (act.Exit code) r) d h.admitted (record { why = (reason.Exit code); ends = refl; call = refl; take = λ x. refl; resume = λ x. refl; answer = λ x. refl }))));
       taken = taken_freed s k (entry d t (act.Exit code) r) h n refl refl;
     }
 
 -- an end
 pub stands_after_end : (s : System) (k : Kept) (d t : ℕ) (why : Reason) (r : Reply) (i : ℕ) → StandsFor s k → IsNext s k.past (entry d t (act.End why) r) → d ≡ i + 1 →
-    StandsFor s (record (with_entry k (entry d t (act.End why) r)) { domains = changed_at i (λ item. record item { ended = Some why }) k.domains; services = each_record (λ nth item. record item { holders = portals_after (entry d t (act.End why) r) nth item.holders }) k.services; calls = (map (ended_call (owned_by k.past d) d) k.calls); waiting = filter (λ c. not (owned_by k.past d (unwrap_or (service_of_call k.past c) 0))) k.waiting; objects = (each_record (object_record_after (entry d t (act.End why) r) k.parts (map (ended_call (owned_by k.past d) d) k.calls)) k.objects); extents = each_record (λ x item. record item { bytes = if in_use_by k.parts (each_record (object_record_after (entry d t (act.End why) r) k.parts (map (ended_call (owned_by k.past d) d) k.calls)) k.objects) x then item.bytes else None }) k.extents; taken = each_from (λ i used. used && not (lies_in_one (freed_runs s (entry d t (act.End why) r) k.past) i)) 0 k.taken })
+    StandsFor s (record (with_entry k (entry d t (act.End why) r)) { domains = changed_at i (λ item. record item { ended = Some why }) k.domains; services = each_record (λ nth item. record item { holders = portals_after (entry d t (act.End why) r) nth item.holders }) k.services; calls = (map (ended_call (owned_by k.past d) d (length k.past)) k.calls); waiting = filter (λ c. not (owned_by k.past d (unwrap_or (service_of_call k.past c) 0))) k.waiting; objects = (each_record (object_record_after (entry d t (act.End why) r) k.parts (map (ended_call (owned_by k.past d) d (length k.past)) k.calls)) k.objects); extents = each_record (λ x item. record item { bytes = if in_use_by k.parts (each_record (object_record_after (entry d t (act.End why) r) k.parts (map (ended_call (owned_by k.past d) d (length k.past)) k.calls)) k.objects) x then item.bytes else None }) k.extents; taken = each_from (λ i used. used && not (lies_in_one (freed_runs s (entry d t (act.End why) r) k.past) i)) 0 k.taken })
 unfolding is_birth makes_domain ended_by ended_by_act is_export exported_interface received_service received_parcel bound_by_act is_call asked_by queued_as is_take_of is_resume_of answered_by_act new_parts received_objects objects_in is_drop_of ended_object is_allocation makes_extent is_done new_threads is_choice
 stands_after_end s k d t why r i h n q =
     record {
@@ -571,17 +571,17 @@ stands_after_end s k d t why r i h n q =
       threads = h.threads ∙ sym (threads_left s k.past (entry d t (act.End why) r) n refl refl refl refl);
       services = services_stepped s k (entry d t (act.End why) r) h n refl;
       names = keeps_names s k (entry d t (act.End why) r) h n (λ x. refl);
-      calls = (ap (map (ended_call (owned_by k.past d) d)) h.calls ∙ sym (calls_after_end s k.past (entry d t (act.End why) r) d h.admitted (record { why = why; ends = refl; call = refl; take = λ x. refl; resume = λ x. refl; answer = λ x. refl })));
+      calls = (ap (map (ended_call (owned_by k.past d) d (length k.past))) h.calls ∙ sym (calls_after_end s k.past (entry d t (act.End why) r) d h.admitted (record { why = why; ends = refl; call = refl; take = λ x. refl; resume = λ x. refl; answer = λ x. refl })));
       waiting = ap (filter (λ c. not (owned_by k.past d (unwrap_or (service_of_call k.past c) 0)))) h.waiting ∙ sym (waiting_after_end k.past (entry d t (act.End why) r) d (record { why = why; ends = refl; call = refl; take = λ x. refl; resume = λ x. refl; answer = λ x. refl }));
       parts = keeps_parts s k (entry d t (act.End why) r) h n refl;
-      objects = (objects_stepped s k (entry d t (act.End why) r) h n (map (ended_call (owned_by k.past d) d) k.calls) refl (ap (map (ended_call (owned_by k.past d) d)) h.calls ∙ sym (calls_after_end s k.past (entry d t (act.End why) r) d h.admitted (record { why = why; ends = refl; call = refl; take = λ x. refl; resume = λ x. refl; answer = λ x. refl }))));
-      extents = extents_stepped s k (entry d t (act.End why) r) h n k.parts (each_record (object_record_after (entry d t (act.End why) r) k.parts (map (ended_call (owned_by k.past d) d) k.calls)) k.objects) refl (and_false (is_done r)) (keeps_parts s k (entry d t (act.End why) r) h n refl) (objects_stepped s k (entry d t (act.End why) r) h n (map (ended_call (owned_by k.past d) d) k.calls) refl (ap (map (ended_call (owned_by k.past d) d)) h.calls ∙ sym (calls_after_end s k.past (entry d t (act.End why) r) d h.admitted (record { why = why; ends = refl; call = refl; take = λ x. refl; resume = λ x. refl; answer = λ x. refl }))));
+      objects = (objects_stepped s k (entry d t (act.End why) r) h n (map (ended_call (owned_by k.past d) d (length k.past)) k.calls) refl (ap (map (ended_call (owned_by k.past d) d (length k.past))) h.calls ∙ sym (calls_after_end s k.past (entry d t (act.End why) r) d h.admitted (record { why = why; ends = refl; call = refl; take = λ x. refl; resume = λ x. refl; answer = λ x. refl }))));
+      extents = extents_stepped s k (entry d t (act.End why) r) h n k.parts (each_record (object_record_after (entry d t (act.End why) r) k.parts (map (ended_call (owned_by k.past d) d (length k.past)) k.calls)) k.objects) refl (and_false (is_done r)) (keeps_parts s k (entry d t (act.End why) r) h n refl) (objects_stepped s k (entry d t (act.End why) r) h n (map (ended_call (owned_by k.past d) d (length k.past)) k.calls) refl (ap (map (ended_call (owned_by k.past d) d (length k.past))) h.calls ∙ sym (calls_after_end s k.past (entry d t (act.End why) r) d h.admitted (record { why = why; ends = refl; call = refl; take = λ x. refl; resume = λ x. refl; answer = λ x. refl }))));
       taken = taken_freed s k (entry d t (act.End why) r) h n refl refl;
     }
 
 -- a done kill
 pub stands_after_kill : (s : System) (k : Kept) (d t : ℕ) (j : ℤ) (i : ℕ) → StandsFor s k → IsNext s k.past (entry d t (act.Kill j) reply.Done) → (not_below_zero j) ≡ i + 1 →
-    StandsFor s (record (with_entry k (entry d t (act.Kill j) reply.Done)) { domains = changed_at i (λ item. record item { ended = Some reason.Killed }) k.domains; services = each_record (λ nth item. record item { holders = portals_after (entry d t (act.Kill j) reply.Done) nth item.holders }) k.services; calls = (map (ended_call (owned_by k.past (not_below_zero j)) (not_below_zero j)) k.calls); waiting = filter (λ c. not (owned_by k.past (not_below_zero j) (unwrap_or (service_of_call k.past c) 0))) k.waiting; objects = (each_record (object_record_after (entry d t (act.Kill j) reply.Done) k.parts (map (ended_call (owned_by k.past (not_below_zero j)) (not_below_zero j)) k.calls)) k.objects); extents = each_record (λ x item. record item { bytes = if in_use_by k.parts (each_record (object_record_after (entry d t (act.Kill j) reply.Done) k.parts (map (ended_call (owned_by k.past (not_below_zero j)) (not_below_zero j)) k.calls)) k.objects) x then item.bytes else None }) k.extents; taken = each_from (λ i used. used && not (lies_in_one (freed_runs s (entry d t (act.Kill j) reply.Done) k.past) i)) 0 k.taken })
+    StandsFor s (record (with_entry k (entry d t (act.Kill j) reply.Done)) { domains = changed_at i (λ item. record item { ended = Some reason.Killed }) k.domains; services = each_record (λ nth item. record item { holders = portals_after (entry d t (act.Kill j) reply.Done) nth item.holders }) k.services; calls = (map (ended_call (owned_by k.past (not_below_zero j)) (not_below_zero j) (length k.past)) k.calls); waiting = filter (λ c. not (owned_by k.past (not_below_zero j) (unwrap_or (service_of_call k.past c) 0))) k.waiting; objects = (each_record (object_record_after (entry d t (act.Kill j) reply.Done) k.parts (map (ended_call (owned_by k.past (not_below_zero j)) (not_below_zero j) (length k.past)) k.calls)) k.objects); extents = each_record (λ x item. record item { bytes = if in_use_by k.parts (each_record (object_record_after (entry d t (act.Kill j) reply.Done) k.parts (map (ended_call (owned_by k.past (not_below_zero j)) (not_below_zero j) (length k.past)) k.calls)) k.objects) x then item.bytes else None }) k.extents; taken = each_from (λ i used. used && not (lies_in_one (freed_runs s (entry d t (act.Kill j) reply.Done) k.past) i)) 0 k.taken })
 unfolding is_birth makes_domain ended_by ended_by_act is_export exported_interface received_service received_parcel bound_by_act is_call asked_by queued_as is_take_of is_resume_of answered_by_act new_parts received_objects objects_in is_drop_of ended_object is_allocation makes_extent is_done new_threads is_choice
 stands_after_kill s k d t j i h n q =
     record {
@@ -593,10 +593,10 @@ stands_after_kill s k d t j i h n q =
       threads = h.threads ∙ sym (threads_left s k.past (entry d t (act.Kill j) reply.Done) n refl refl refl refl);
       services = services_stepped s k (entry d t (act.Kill j) reply.Done) h n refl;
       names = keeps_names s k (entry d t (act.Kill j) reply.Done) h n (λ x. refl);
-      calls = (ap (map (ended_call (owned_by k.past (not_below_zero j)) (not_below_zero j))) h.calls ∙ sym (calls_after_end s k.past (entry d t (act.Kill j) reply.Done) (not_below_zero j) h.admitted (record { why = reason.Killed; ends = refl; call = refl; take = λ x. refl; resume = λ x. refl; answer = λ x. refl })));
+      calls = (ap (map (ended_call (owned_by k.past (not_below_zero j)) (not_below_zero j) (length k.past))) h.calls ∙ sym (calls_after_end s k.past (entry d t (act.Kill j) reply.Done) (not_below_zero j) h.admitted (record { why = reason.Killed; ends = refl; call = refl; take = λ x. refl; resume = λ x. refl; answer = λ x. refl })));
       waiting = ap (filter (λ c. not (owned_by k.past (not_below_zero j) (unwrap_or (service_of_call k.past c) 0)))) h.waiting ∙ sym (waiting_after_end k.past (entry d t (act.Kill j) reply.Done) (not_below_zero j) (record { why = reason.Killed; ends = refl; call = refl; take = λ x. refl; resume = λ x. refl; answer = λ x. refl }));
       parts = keeps_parts s k (entry d t (act.Kill j) reply.Done) h n refl;
-      objects = (objects_stepped s k (entry d t (act.Kill j) reply.Done) h n (map (ended_call (owned_by k.past (not_below_zero j)) (not_below_zero j)) k.calls) refl (ap (map (ended_call (owned_by k.past (not_below_zero j)) (not_below_zero j))) h.calls ∙ sym (calls_after_end s k.past (entry d t (act.Kill j) reply.Done) (not_below_zero j) h.admitted (record { why = reason.Killed; ends = refl; call = refl; take = λ x. refl; resume = λ x. refl; answer = λ x. refl }))));
-      extents = extents_stepped s k (entry d t (act.Kill j) reply.Done) h n k.parts (each_record (object_record_after (entry d t (act.Kill j) reply.Done) k.parts (map (ended_call (owned_by k.past (not_below_zero j)) (not_below_zero j)) k.calls)) k.objects) refl refl (keeps_parts s k (entry d t (act.Kill j) reply.Done) h n refl) (objects_stepped s k (entry d t (act.Kill j) reply.Done) h n (map (ended_call (owned_by k.past (not_below_zero j)) (not_below_zero j)) k.calls) refl (ap (map (ended_call (owned_by k.past (not_below_zero j)) (not_below_zero j))) h.calls ∙ sym (calls_after_end s k.past (entry d t (act.Kill j) reply.Done) (not_below_zero j) h.admitted (record { why = reason.Killed; ends = refl; call = refl; take = λ x. refl; resume = λ x. refl; answer = λ x. refl }))));
+      objects = (objects_stepped s k (entry d t (act.Kill j) reply.Done) h n (map (ended_call (owned_by k.past (not_below_zero j)) (not_below_zero j) (length k.past)) k.calls) refl (ap (map (ended_call (owned_by k.past (not_below_zero j)) (not_below_zero j) (length k.past))) h.calls ∙ sym (calls_after_end s k.past (entry d t (act.Kill j) reply.Done) (not_below_zero j) h.admitted (record { why = reason.Killed; ends = refl; call = refl; take = λ x. refl; resume = λ x. refl; answer = λ x. refl }))));
+      extents = extents_stepped s k (entry d t (act.Kill j) reply.Done) h n k.parts (each_record (object_record_after (entry d t (act.Kill j) reply.Done) k.parts (map (ended_call (owned_by k.past (not_below_zero j)) (not_below_zero j) (length k.past)) k.calls)) k.objects) refl refl (keeps_parts s k (entry d t (act.Kill j) reply.Done) h n refl) (objects_stepped s k (entry d t (act.Kill j) reply.Done) h n (map (ended_call (owned_by k.past (not_below_zero j)) (not_below_zero j) (length k.past)) k.calls) refl (ap (map (ended_call (owned_by k.past (not_below_zero j)) (not_below_zero j) (length k.past))) h.calls ∙ sym (calls_after_end s k.past (entry d t (act.Kill j) reply.Done) (not_below_zero j) h.admitted (record { why = reason.Killed; ends = refl; call = refl; take = λ x. refl; resume = λ x. refl; answer = λ x. refl }))));
       taken = taken_freed s k (entry d t (act.Kill j) reply.Done) h n refl refl;
     }

@@ -16,7 +16,7 @@ use Rattle.jx_model.specs.Legal.{IsNext, IsAdmittedPast}
 use Rattle.jx_base.proofs.BasicLaws.{ap2, ap3, eq_of, range_append}
 use Rattle.jx_base.proofs.NthEntries.{count_new, count_same}
 use Rattle.jx_model.proofs.OneThread.{serves_same, last_same, state_with}
-use Rattle.history_rows.proofs.Records.{map_range, set_range, records_same, records_more, records_set, not_that, same_or_not}
+use Rattle.history_rows.proofs.Records.{get_left, get_right, map_range, set_range, records_same, records_more, records_set, not_that, same_or_not}
 use Rattle.history_rows.proofs.ThreadRecords.{leaves_thread, threads_of_own, threads_of_other, idle_record, record_left, thread_record_own, thread_record_other, not_this}
 use Rattle.history_rows.proofs.Actors.{unmade_acts}
 use Rattle.history_rows.proofs.Absent.{IsAbsent, absent, unmade_absent, unmade_threads, stranger}
@@ -99,16 +99,6 @@ map_items f g a [] h = refl
 map_items {B = B} f g a (x ∷ xs) h =
     ap2 (λ (y : B) (ys : List B). y ∷ ys) (ap f (omega arith) ∙ h 0 x refl)
     (map_items f g (a + 1) xs (λ i y q. ap f (omega arith) ∙ h (suc i) y q))
-
-get_left : {A : Type 0} (xs ys : List A) (i : ℕ) → i < length xs → slice_get (xs ++ ys) i ≡ slice_get xs i
-get_left [] ys i l = absurd (omega (arith, l))
-get_left (x ∷ xs) ys zero l = refl
-get_left (x ∷ xs) ys (suc i) l = get_left xs ys i (omega (arith, l))
-
-get_right : {A : Type 0} (xs ys : List A) (i j : ℕ) → j ≡ length xs + i → slice_get (xs ++ ys) j ≡ slice_get ys i
-get_right [] ys i j q = ap (slice_get ys) (omega (arith, q))
-get_right (x ∷ xs) ys i zero q = absurd (omega (arith, q))
-get_right (x ∷ xs) ys i (suc j) q = get_right xs ys i j (omega (arith, q))
 
 -- a thread that was there keeps its service
 kept_service : (e : Entry) (past : Past) (d t : ℕ) → t ≤ length (service_threads past d) → service_of_thread (e ∷ past) d t ≡ service_of_thread past d t

@@ -1,7 +1,8 @@
 -- What a nucleus keeps, as plain lists read off its past. Thing number n stands at place n - 1.
-use Rattle.std.specs.Prelude.{◌≡◌, ℕ, zero, suc, Bool, List, [], ◌∷◌, map, Option, Some, None, slice_get, if◌then◌else◌}
+use Rattle.std.specs.Prelude.{◌≡◌, ℕ, zero, suc, ◌+◌, ◌==◌, ◌&&◌, Bool, true, false, List, [], ◌∷◌, length, map, Option, Some, None, slice_get, if◌then◌else◌}
 use Rattle.std.specs.List.{range_with_len}
 use Rattle.std.specs.Str.{bytes_eq}
+use Rattle.jx_base.specs.declared.act.Entry.{Entry}
 use Rattle.jx_base.specs.declared.ids.CallId.{CallId}
 use Rattle.jx_base.specs.declared.ids.ClassId.{ClassId}
 use Rattle.jx_base.specs.declared.ids.ServiceId.{ServiceId}
@@ -12,11 +13,11 @@ use Rattle.jx_base.specs.declared.states.ThreadState.TheVariants as thread
 use Rattle.jx_base.specs.declared.program.System.{System}
 use Rattle.jx_base.specs.Basics.{up_to}
 use Rattle.program_model.specs.Limits.{domain_limit, granule_limit}
-use Rattle.jx_base.specs.Histories.{Past}
+use Rattle.jx_base.specs.Histories.{Past, count_where}
 use Rattle.jx_model.specs.Domains.{domains_made, template_of, creator_of, heap_place_of, end_reason}
 use Rattle.jx_model.specs.Threads.{service_threads, thread_state, threads_of, served_call}
 use Rattle.jx_model.specs.Portals.{services_made, owner_of, interface_of, holds_portal, last_bound}
-use Rattle.jx_model.specs.Calls.{calls_made, call_state, call_entry, waiting_calls, service_of_call, caller_of}
+use Rattle.jx_model.specs.Calls.{is_call, calls_made, call_state, call_entry, first_since, answered_by, waiting_calls, service_of_call, caller_of}
 use Rattle.jx_model.specs.MemoryObjects.{Part, objects_of, objects_made, is_valid, extents_made, allocation_of, allocated_bytes}
 use Rattle.jx_model.specs.Holding.{holds_object, riding_count, carried, is_extent_in_use}
 use Rattle.jx_model.specs.Granules.{Run, extent_run, is_used_granule}
@@ -103,17 +104,34 @@ named_service (x ∷ xs) name = if bytes_eq x.0 name then Some x.1 else named_se
 
 -- ---- calls
 
--- a call: its caller, the caller's thread, its service, where it stands, and the objects that it carries
+-- a call: its caller, the caller's thread, its service, where it stands, the objects that it carries,
+-- and the places in the history of the entries that queued it and that answered it
 pub record CallRecord : Type 0 where
   pub caller : ℕ
   pub thread : ℕ
   pub service : ℕ
   pub state : CallState
   pub carried : List ℕ
+  pub queued_at : ℕ
+  pub answered_at : Option ℕ
 
 -- the thread that made the call
 unfoldable pub calling_thread : Past → ℕ → Option ℕ
 calling_thread past c = option_map (λ e. e.thread.0) (call_entry past c)
+
+-- the place in the history of the n-th entry that passes, the oldest at 0
+unfoldable pub place_of : (Entry → Bool) → Past → ℕ → Option ℕ
+place_of p [] n = None
+place_of p (e ∷ past) n =
+    elim (p e && (n == count_where p past + 1)) [ true ↦ Some (length past) | false ↦ place_of p past n ]
+
+-- the place in the history of the entry that queued the call
+unfoldable pub queued_at : Past → ℕ → Option ℕ
+queued_at past c = place_of is_call past c
+
+-- the place in the history of the entry that answered the call
+unfoldable pub answered_at : Past → ℕ → Option ℕ
+answered_at past c = first_since (λ before e. option_map (λ a. length before) (answered_by before e c)) past c
 
 -- a call
 unfoldable pub call_record : Past → ℕ → CallRecord
@@ -124,6 +142,8 @@ call_record past c =
       service = unwrap_or (service_of_call past c) 0;
       state = call_state past c;
       carried = carried past c;
+      queued_at = unwrap_or (queued_at past c) 0;
+      answered_at = answered_at past c;
     }
 
 -- all calls
@@ -217,5 +237,5 @@ pub record StandsFor (s : System) (k : Kept) : Type 0 where
 
 -- what a computed record opens
 unfoldable pub opened_tables : Unit {0}
-unfolding domain_record domain_records state_or_over thread_record thread_records service_record service_records named_service calling_thread call_record call_records object_record object_records extent_size extent_bytes extent_record extent_records granule_flags
+unfolding domain_record domain_records state_or_over thread_record thread_records service_record service_records named_service calling_thread place_of queued_at answered_at call_record call_records object_record object_records extent_size extent_bytes extent_record extent_records granule_flags
 opened_tables = tt
