@@ -23,3 +23,4 @@ pub mod Allocated
 pub mod InBounds
 pub mod HandedOn
 pub mod Validity
+pub mod PortalsMade

@@ -3,7 +3,7 @@
 ghost use Rattle.jx_base.specs.Histories.{past_of};
 ghost use Rattle.jx_laws.specs.Bounds.{MemoryIsInBounds};
 ghost use Rattle.jx_laws.specs.Ended.{EndsJustWhatDerives};
-ghost use Rattle.jx_laws.specs.Handed.{ParcelsWereHeld};
+ghost use Rattle.jx_laws.specs.Handed.{ParcelsWereHeld, PortalsAreKept};
 ghost use Rattle.jx_laws.specs.Laws.{
   CopiesHold,
   FreedHolds,
@@ -50,11 +50,12 @@ pub fn law_4(system: &System, history: &History)
 {}
 
 /// Portals are received: each queued call is through a portal that its caller held, and what a parcel
-/// carries was held by who sent it.
+/// carries was held by who sent it. A live domain holds exactly the portals that its entries gave it.
 pub fn law_5(system: &System, history: &History)
     requires { IsAdmitted system.now history.now }
     ensures called { ReceivedHolds (past_of history.now) }
     ensures handed { ParcelsWereHeld (past_of history.now) }
+    ensures kept { PortalsAreKept (past_of history.now) }
 {}
 
 /// Copies: a take gives what its call asked, a resume the answer.

@@ -11,3 +11,4 @@ pub mod RefusedCarriage
 pub mod Reasons
 pub mod SmallNumbers
 pub mod OneHistory
+pub mod Exported

@@ -1,7 +1,6 @@
 -- A refused entry changes nothing but the answer of its call and its thread.
 use Rattle.std.proofs.Common.{◌≡◌, refl, sym, ◌∙◌, ap, ℕ, ◌+◌, ◌≤◌, Bool, true, false, not, ◌&&◌, ◌||◌, List, [], ◌∷◌, ◌++◌, length, Option, Some, None, is_some, is_none, arith, append-nil, length-append, if◌then◌else◌}
 use Rattle.std.specs.Prelude.{nat_le}
-use Rattle.std.specs.List.{list_any}
 use Rattle.std.proofs.lemmas.Bool.Decides.{nat_tests}
 use Rattle.jx_base.specs.declared.act.Act.{Act}
 use Rattle.jx_base.specs.declared.act.Act.TheVariants as act
@@ -17,7 +16,7 @@ use Rattle.jx_base.specs.Basics.{passes, is_number, contains_number}
 use Rattle.jx_base.specs.Histories.{Past, is_done, is_own}
 use Rattle.jx_model.specs.Domains.{is_birth, makes_domain, birth_of, template_of, creator_of, heap_place_of, named_template, reply_granule, ended_by, ended_by_act, reason_for, end_reason, is_live, is_made}
 use Rattle.jx_model.specs.Threads.{service_threads, new_threads_of, new_threads}
-use Rattle.jx_model.specs.Portals.{is_export, exported_interface, export_of, owner_of, interface_of, has_live_owner, received_parcel, received_service, gives_portal, holds_portal, bound_by_act, last_bound, bound_service}
+use Rattle.jx_model.specs.Portals.{is_export, exported_interface, is_exported, export_of, owner_of, interface_of, has_live_owner, received_parcel, received_service, gives_portal, keeps_portal, holds_portal, bound_by_act, last_bound, bound_service}
 use Rattle.program_model.specs.ParcelParts.{parcel_portals}
 use Rattle.jx_model.specs.Calls.{Answer, is_call, calls_made, asked_by, queued_as, call_entry, asked_of, caller_of, first_since, answered_by, answered_by_act, ends_server, ends_domain, server_of, answer_of, is_answer_to}
 use Rattle.jx_model.specs.MemoryObjects.{Part, is_allocation, allocation_of, makes_extent, new_parts, objects_of, objects_made, extents_made, is_valid, ends_one_of, ended_object, lineage_of}
@@ -123,16 +122,23 @@ valid_none (e ∷ past) m h =
     (above_too m (objects_made past) (objects_made (e ∷ past)) (objects_grow e past) h)
     ∙ h
 
+-- a test behind itself
+twice : (x y z : Bool) → (x && y && (x && y && z)) ≡ (x && y && z)
+twice true true z = refl
+twice true false z = refl
+twice false y z = refl
+
 -- who isn't made keeps nothing, and nobody keeps what isn't made
 pub keeps_guarded : (past : Past) (d m : ℕ) → (is_made past d && nat_le m (objects_made past) && keeps_object past d m) ≡ keeps_object past d m
 unfolding keeps_object
 keeps_guarded [] d m = and_false (is_made [] d && nat_le m (objects_made []))
 keeps_guarded (e ∷ past) d m = twice (is_made (e ∷ past) d) (nat_le m (objects_made (e ∷ past))) (keeps_after d m e (keeps_object past d m))
-  where
-    twice : (x y z : Bool) → (x && y && (x && y && z)) ≡ (x && y && z)
-    twice true true z = refl
-    twice true false z = refl
-    twice false y z = refl
+
+-- who isn't made keeps no portal, and nobody keeps one to what isn't made
+pub portals_guarded : (past : Past) (d k : ℕ) → (is_made past d && is_exported past k && keeps_portal past d k) ≡ keeps_portal past d k
+unfolding keeps_portal
+portals_guarded [] d k = and_false (is_made [] d && is_exported [] k)
+portals_guarded (e ∷ past) d k = twice (is_made (e ∷ past) d) (is_exported (e ∷ past) k) ((is_own d e && gives_portal k e) || keeps_portal past d k)
 
 -- ---- what stays the same
 
@@ -170,6 +176,10 @@ module _ (s : System) (past : Past) (e : Entry) (r : Refusal) (next : IsNext s p
   pub live_same : (d : ℕ) → is_live (e ∷ past) d ≡ is_live past d
   unfolding is_live is_made
   live_same d = ap2 (λ (n : ℕ) (o : Option Reason). nat_le 1 d && nat_le d n && is_none o) (count_same is_birth e past birth) (reason d)
+
+  exists : (d : ℕ) → is_made (e ∷ past) d ≡ is_made past d
+  unfolding is_made
+  exists d = ap (λ (n : ℕ). nat_le 1 d && nat_le d n) (count_same is_birth e past birth)
 
   threads : (d : ℕ) → service_threads (e ∷ past) d ≡ service_threads past d
   unfolding service_threads new_threads_of
@@ -226,11 +236,18 @@ module _ (s : System) (past : Past) (e : Entry) (r : Refusal) (next : IsNext s p
       (ap (received_service e.act) refused ∙ no_service e.act r)
       (ap (received_parcel e.act) refused ∙ no_parcel e.act r)
 
+  exported : (k : ℕ) → is_exported (e ∷ past) k ≡ is_exported past k
+  unfolding is_exported
+  exported k = ap (λ (n : ℕ). nat_le 1 k && nat_le k n) (count_same is_export e past export)
+
   held : (d k : ℕ) → holds_portal (e ∷ past) d k ≡ holds_portal past d k
-  unfolding holds_portal
-  held d k =
-      ap2 (λ (x y : Bool). x && ((is_own d e && y) || list_any (λ f. is_own d f && gives_portal k f) past)) (live_same d) (no_portal k)
-      ∙ ap (λ (x : Bool). is_live past d && (x || list_any (λ f. is_own d f && gives_portal k f) past)) (and_false (is_own d e))
+  unfolding holds_portal keeps_portal
+  held d k = ap2 (λ (x y : Bool). x && y) (live_same d) (keeps ∙ portals_guarded past d k)
+    where
+      keeps : (is_made (e ∷ past) d && is_exported (e ∷ past) k && ((is_own d e && gives_portal k e) || keeps_portal past d k)) ≡ (is_made past d && is_exported past k && keeps_portal past d k)
+      keeps =
+          ap3 (λ (x y z : Bool). x && y && ((is_own d e && z) || keeps_portal past d k)) (exists d) (exported k) (no_portal k)
+          ∙ ap (λ (z : Bool). is_made past d && is_exported past k && (z || keeps_portal past d k)) (and_false (is_own d e))
 
   pub same_services : HasSameServices past (e ∷ past)
   unfolding interface_of export_of
@@ -304,10 +321,6 @@ module _ (s : System) (past : Past) (e : Entry) (r : Refusal) (next : IsNext s p
       by : (b : Bool) → nat_le m (objects_made past) ≡ b → (if b then is_valid past m && true else b) ≡ is_valid past m
       by true q = and_true (is_valid past m)
       by false q = sym (valid_none past m q)
-
-  exists : (d : ℕ) → is_made (e ∷ past) d ≡ is_made past d
-  unfolding is_made
-  exists d = ap (λ (n : ℕ). nat_le 1 d && nat_le d n) (count_same is_birth e past birth)
 
   after : (d m : ℕ) (k : Bool) → keeps_after d m e k ≡ k
   unfolding keeps_after contains_number

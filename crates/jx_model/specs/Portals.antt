@@ -1,6 +1,5 @@
 -- Services, who holds a portal to one, and the names that services are bound to.
-use Rattle.std.specs.Prelude.{ℕ, Bool, ◌&&◌, ◌||◌, List, [], ◌∷◌, Option, Some, None, is_some, if◌then◌else◌, IsTrue}
-use Rattle.std.specs.List.{list_any}
+use Rattle.std.specs.Prelude.{ℕ, Bool, false, ◌&&◌, ◌||◌, List, [], ◌∷◌, Option, Some, None, is_some, nat_lt, nat_le, if◌then◌else◌, IsTrue}
 use Rattle.std.specs.Str.{bytes_eq}
 use Rattle.jx_base.specs.declared.act.Act.{Act}
 use Rattle.jx_base.specs.declared.act.Act.TheVariants as act
@@ -12,7 +11,7 @@ use Rattle.jx_base.specs.declared.value.Parcel.{Parcel}
 use Rattle.jx_base.specs.Basics.{passes, contains_number, is_number}
 use Rattle.program_model.specs.ParcelParts.{parcel_portals}
 use Rattle.jx_base.specs.Histories.{Past, is_done, is_own, nth_entry, count_where}
-use Rattle.jx_model.specs.Domains.{is_live}
+use Rattle.jx_model.specs.Domains.{is_made, is_live}
 use Rattle.std.specs.Option.{option_and_then, option_map}
 
 -- ---- services
@@ -29,6 +28,10 @@ is_export e = is_some (exported_interface e.act e.reply)
 -- how many services were made
 abbrev pub services_made : Past → ℕ
 services_made past = count_where is_export past
+
+-- whether service s was made
+unfoldable pub is_exported : Past → ℕ → Bool
+is_exported past s = nat_lt 0 s && nat_le s (services_made past)
 
 -- the entry that made the service
 unfoldable pub export_of : Past → ℕ → Option Entry
@@ -66,9 +69,15 @@ unfoldable pub gives_portal : ℕ → Entry → Bool
 gives_portal s e =
     is_number (received_service e.act e.reply) s || passes (λ p. contains_number (parcel_portals p) s) (received_parcel e.act e.reply)
 
--- whether a live domain holds a portal to the service: an entry of its own gave it one
+-- whether an own entry of d, since both were made, gave it a portal to s
+unfoldable pub keeps_portal : Past → ℕ → ℕ → Bool
+keeps_portal [] d s = false
+keeps_portal (e ∷ past) d s =
+    is_made (e ∷ past) d && is_exported (e ∷ past) s && ((is_own d e && gives_portal s e) || keeps_portal past d s)
+
+-- whether a live domain holds a portal to the service
 unfoldable pub holds_portal : Past → ℕ → ℕ → Bool
-holds_portal past d s = is_live past d && list_any (λ e. is_own d e && gives_portal s e) past
+holds_portal past d s = is_live past d && keeps_portal past d s
 
 -- d is live and holds a portal to s
 abbrev pub HoldsPortal : Past → ℕ → ℕ → Type 0
@@ -92,5 +101,5 @@ bound_service past name = option_and_then (λ s. if has_live_owner past s then S
 
 -- what a computed row opens
 unfoldable pub opened_portals : Unit {0}
-unfolding exported_interface is_export export_of owner_of interface_of has_live_owner received_parcel received_service gives_portal holds_portal bound_by_act last_bound bound_service
+unfolding exported_interface is_export is_exported export_of owner_of interface_of has_live_owner received_parcel received_service gives_portal keeps_portal holds_portal bound_by_act last_bound bound_service
 opened_portals = tt

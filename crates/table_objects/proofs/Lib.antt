@@ -1,0 +1,9 @@
+pub mod GivenObjects
+pub mod Holders
+pub mod UsedBefore
+pub mod Parts
+pub mod ExtentsInUse
+pub mod Riding
+pub mod ObjectRecords
+pub mod ServiceRecords
+pub mod EachRecord

@@ -1,0 +1,3 @@
+pub mod ChoiceReads
+pub mod ActingReads
+pub mod ReplyReads

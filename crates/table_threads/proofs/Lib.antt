@@ -1,0 +1,13 @@
+pub mod Records
+pub mod Actors
+pub mod DomainRecords
+pub mod ThreadRecords
+pub mod AbsentThreads
+pub mod ThreadTable
+pub mod ThreadActs
+pub mod ServedCalls
+pub mod CallStages
+pub mod Places
+pub mod CallRecords
+pub mod CallActs
+pub mod Binds
