@@ -1,4 +1,4 @@
--- The first word of an act tells its form.
+-- The first word of an act takes_off its form.
 use Rattle.std.proofs.Common.{◌≡◌, ℕ, ◌+◌, ◌*◌, ◌==◌, Bool, true, not, [], ◌∷◌, ◌++◌, refl}
 use Rattle.std.specs.List.{list_all}
 use Rattle.jx_base.specs.declared.act.Act.{Act}
@@ -27,7 +27,7 @@ unfolding act_word
 no_blanks (act.Create t) = refl
 no_blanks _ = refl
 
--- first words of acts before rests that begin with blanks are told
+-- first words of acts before rests that begin with blanks are taken off
 pub act_words_take : (a b : Act) (r q : Bytes) → Stops is_no_blank r → Stops is_no_blank q → act_word a ++ r ≡ act_word b ++ q → (act_word a ≡ act_word b) × (r ≡ q)
 act_words_take a b r q f g e =
     cut is_no_blank (act_word a) (act_word b) r q (passing is_no_blank (act_word a) (no_blanks a)) (passing is_no_blank (act_word b) (no_blanks b)) f g e

@@ -25,20 +25,20 @@ use Rattle.audit_laws.proofs.Numbers.{number_takes, signed_takes}
 use Rattle.audit_laws.proofs.Quotes.{quoted_takes}
 use Rattle.audit_laws.proofs.Lines.{words_before, words_append}
 use Rattle.audit_laws.proofs.Named.{class_takes, class_begins, template_takes, method_takes, method_ends}
-use Rattle.audit_laws.proofs.Parcels.{parcel_takes, told_parcel}
+use Rattle.audit_laws.proofs.Parcels.{parcel_takes, plain_parcel}
 use Rattle.audit_laws.proofs.ActWords.{word_number}
 
 -- ---- operands
 
--- a number behind a blank and before one is told
+-- a number behind a blank and before one is taken off
 pub id_takes : (m n : ℕ) (r q : Bytes) → IsId m → IsId n → 32 ∷ (decimal m ++ 32 ∷ r) ≡ 32 ∷ (decimal n ++ 32 ∷ q) → (m ≡ n) × (32 ∷ r ≡ 32 ∷ q)
 id_takes m n r q h k e = number_takes m n (32 ∷ r) (32 ∷ q) (omega arith) (omega arith) refl refl (parts_of_cons e).1
 
--- a number with its sign, behind a blank and before one, is told
+-- a number with its sign, behind a blank and before one, is taken off
 int_takes : (m n : ℤ) (r q : Bytes) → IsInt m → IsInt n → 32 ∷ (signed_decimal m ++ 32 ∷ r) ≡ 32 ∷ (signed_decimal n ++ 32 ∷ q) → (m ≡ n) × (32 ∷ r ≡ 32 ∷ q)
 int_takes m n r q h k e = signed_takes m n (32 ∷ r) (32 ∷ q) (omega (arith, h.sfits)) (omega (arith, k.sfits)) refl refl (parts_of_cons e).1
 
--- a quoted text behind a blank and before one is told
+-- a quoted text behind a blank and before one is taken off
 text_takes : (x y : List ℕ) (r q : Bytes) → AreUnits x → AreUnits y → 32 ∷ (quoted x ++ 32 ∷ r) ≡ 32 ∷ (quoted y ++ 32 ∷ q) → (x ≡ y) × (32 ∷ r ≡ 32 ∷ q)
 text_takes x y r q h k e = quoted_takes x y (32 ∷ r) (32 ∷ q) h k (parts_of_cons e).1
 
@@ -55,7 +55,7 @@ width_small w (inr (inr h)) = omega arith
 
 -- ---- calls
 
--- a service, a method and a parcel, behind blanks and before one, are told
+-- a service, a method and a parcel, behind blanks and before one, are taken off
 call_takes : (s : System) → HasDistinctNames s → (past : Past) → IsAdmittedPast s past → (k l m n : ℕ) (x y : Parcel) (r q : Bytes) → IsId k → IsId l → IsSome (selector_at s m) → IsSome (selector_at s n) →
     IsParcelIn s past x → IsParcelIn s past y →
     words_before (decimal k ∷ method_text s m ++ parcel_text s x ∷ []) (32 ∷ r) ≡ words_before (decimal l ∷ method_text s n ++ parcel_text s y ∷ []) (32 ∷ q) →
@@ -65,19 +65,19 @@ call_takes s names past past_is k l m n x y r q hk hl hm hn hx hy e =
     λ k m x r. ap (λ (z : Bytes). 32 ∷ (decimal k ++ z)) (words_append (method_text s m) (parcel_text s x ∷ []) (32 ∷ r)) in
     let c = number_takes k l _ _ (omega arith) (omega arith) (method_ends s m _) (method_ends s n _) (parts_of_cons (sym (before k m x r) ∙ e ∙ before l n y q)).1 in
     let d = method_takes s names m n _ _ hm hn c.1 in
-    let f = parcel_takes s names past x y _ _ (told_parcel s past x hx) (told_parcel s past y hy) (parts_of_cons d.1).1 in
+    let f = parcel_takes s names past x y _ _ (plain_parcel s past x hx) (plain_parcel s past y hy) (parts_of_cons d.1).1 in
     (c.0, d.0, f.0, f.1)
 
--- a call and a parcel, behind blanks and before one, are told
+-- a call and a parcel, behind blanks and before one, are taken off
 answer_takes : (s : System) → HasDistinctNames s → (past : Past) → IsAdmittedPast s past → (c d : ℕ) (x y : Parcel) (r q : Bytes) → IsId c → IsId d → IsParcelIn s past x → IsParcelIn s past y →
     words_before (decimal c ∷ parcel_text s x ∷ []) (32 ∷ r) ≡ words_before (decimal d ∷ parcel_text s y ∷ []) (32 ∷ q) → (c ≡ d) × (x ≡ y) × (32 ∷ r ≡ 32 ∷ q)
 answer_takes s names past past_is c d x y r q hc hd hx hy e =
     let m = id_takes c d _ _ hc hd e in
-    let f = parcel_takes s names past x y _ _ (told_parcel s past x hx) (told_parcel s past y hy) (parts_of_cons m.1).1 in (m.0, f.0, f.1)
+    let f = parcel_takes s names past x y _ _ (plain_parcel s past x hx) (plain_parcel s past y hy) (parts_of_cons m.1).1 in (m.0, f.0, f.1)
 
 -- ---- ends
 
--- the class of an exception, or none, before an arrow is told
+-- the class of an exception, or none, before an arrow is taken off
 exception_takes : (s : System) → HasDistinctNames s → (c d : Option ClassId) (r q : Bytes) → IfSome c (λ k. IsClass s k.0) → IfSome d (λ k. IsClass s k.0) →
     words_before (exception_words s c) (32 ∷ 45 ∷ r) ≡ words_before (exception_words s d) (32 ∷ 45 ∷ q) → (c ≡ d) × (32 ∷ 45 ∷ r ≡ 32 ∷ 45 ∷ q)
 unfolding exception_words
@@ -93,7 +93,7 @@ unfolding is_end_reason
 is_end x (inl h) = ap is_end_reason h
 is_end x (inr h) = ap is_end_reason h
 
--- the reason of an end, before a blank, is told
+-- the reason of an end, before a blank, is taken off
 reason_takes : (x y : Reason) (r q : Bytes) → is_end_reason x ≡ true → is_end_reason y ≡ true →
     words_before (reason_words x) (32 ∷ r) ≡ words_before (reason_words y) (32 ∷ q) → (x ≡ y) × (32 ∷ r ≡ 32 ∷ q)
 unfolding reason_words is_end_reason
@@ -109,7 +109,7 @@ reason_takes x y r q h k e = cc
 abbrev pub AreGoesOfOneThread : Act → Act → Type 0
 AreGoesOfOneThread a b = (t u : ThreadId) → a ≡ act.Go t → b ≡ act.Go u → t.0 ≡ u.0
 
--- acts that are well made are told by their first words and by the others before an arrow
+-- acts that are well made are taken off by their words before an arrow
 pub act_takes : (s : System) → HasDistinctNames s → (past : Past) → IsAdmittedPast s past → (a b : Act) (r q : Bytes) → IsWellMade s past a → IsWellMade s past b →
     AreGoesOfOneThread a b → word_number (act_word a) ≡ word_number (act_word b) →
     words_before (act_operands s a) (32 ∷ 45 ∷ r) ≡ words_before (act_operands s b) (32 ∷ 45 ∷ q) → (a ≡ b) × (32 ∷ 45 ∷ r ≡ 32 ∷ 45 ∷ q)

@@ -1,4 +1,4 @@
--- Where the line of an entry ends, and that it tells the entry.
+-- Where the line of an entry ends, and that it takes_off the entry.
 use Rattle.std.proofs.Common.{◌≡◌, ℕ, ◌+◌, true, false, List, [], ◌∷◌, ◌++◌, codes, Some, refl, sym, ap, ◌∙◌, subst, append_assoc}
 use Rattle.std.specs.Prelude.{⊤}
 use Rattle.std.specs.Fmt.{decimal}
@@ -62,7 +62,7 @@ goes_alike s past e f h k same t u p q =
 replies_alike : (s : System) (past : Past) (e f : Entry) → IsNext s past e → IsNext s past f → e.domain.0 ≡ f.domain.0 → e.act ≡ f.act → e.reply ≡ f.reply
 replies_alike s past e f h k p q = h.reply ∙ (λ t. reply_to s past (p t) (q t)) ∙ sym k.reply
 
--- lines of entries that may come next, before rests, are told
+-- lines of entries that may come next, before rests, are taken off
 entry_takes : (s : System) → HasDistinctNames s → (past : Past) (n : ℕ) (e f : Entry) (r q : Bytes) → IsAdmittedPast s past → IsNext s past e → IsNext s past f →
     entry_line s n e ++ r ≡ entry_line s n f ++ q → (e ≡ f) × (r ≡ q)
 entry_takes s names past n e f r q past_is h k g =
@@ -91,7 +91,7 @@ begins_otherwise _ r q (begins {u} {units} h) e = let g : is_number_byte u ≡ f
 entry_begins : (s : System) (n : ℕ) (e : Entry) (r q : Bytes) → entry_line s n e ++ r ≡ 99 ∷ q → ⊥
 entry_begins s n e r q g = begins_otherwise (decimal n) _ q (decimal_begins n) (sym (entry_parts s n e r) ∙ g)
 
--- lines of entries before rests that begin with `c` are told
+-- lines of entries before rests that begin with `c` are taken off
 pub entries_take : (s : System) → HasDistinctNames s → (past : Past) (n : ℕ) (es fs : List Entry) (r q : Bytes) → IsAdmittedPast s past → AllFollow s past es → AllFollow s past fs →
     entry_lines s n es ++ 99 ∷ r ≡ entry_lines s n fs ++ 99 ∷ q → es ≡ fs
 unfolding entry_lines

@@ -46,13 +46,13 @@ named_takes {A} name xs units apart i j r q h k e = by (slice_get xs i) (slice_g
         let m = quoted_takes (name x) (name y) r q (at_place (λ z. AreUnits (name z)) xs i x units f) (at_place (λ z. AreUnits (name z)) xs j y units g) e in
         (apart i j x y f g m.0, m.1)
 
--- names of classes before rests are told
+-- names of classes before rests are taken off
 pub class_takes : (s : System) → HasDistinctNames s → (c d : ℕ) (r q : Bytes) → IsSome (class_at s c) → IsSome (class_at s d) →
     class_text s c ++ r ≡ class_text s d ++ q → (c ≡ d) × (r ≡ q)
 unfolding class_text class_at
 class_takes s names c d r q h k e = named_takes (λ (x : Class). x.name) s.program.classes names.class_units names.classes c d r q h k e
 
--- names of templates before rests are told
+-- names of templates before rests are taken off
 pub template_takes : (s : System) → HasDistinctNames s → (c d : ℕ) (r q : Bytes) → IsSome (template_at s c) → IsSome (template_at s d) →
     template_text s c ++ r ≡ template_text s d ++ q → (c ≡ d) × (r ≡ q)
 unfolding template_text template_at
@@ -77,7 +77,7 @@ words_of_selector o = elim o [ None ↦ quoted [] ∷ quoted [] ∷ [] | Some y 
 abbrev HasUnits : Selector → Type 0
 HasUnits y = AreUnits y.name × AreUnits y.descriptor
 
--- names of methods, each with its descriptor, before rests are told
+-- names of methods, each with its descriptor, before rests are taken off
 pub method_takes : (s : System) → HasDistinctNames s → (c d : ℕ) (r q : Bytes) → IsSome (selector_at s c) → IsSome (selector_at s d) →
     words_before (method_text s c) r ≡ words_before (method_text s d) q → (c ≡ d) × (r ≡ q)
 unfolding method_text selector_at

@@ -21,19 +21,19 @@ use Rattle.audit_model.specs.Audit.{Bytes, word_text, node_text, parcel_text, cl
 use Rattle.program_model.specs.DistinctNames.{HasDistinctNames}
 use Rattle.audit_laws.proofs.Cuts.{parts_of_cons, first_unit}
 use Rattle.audit_laws.proofs.Numbers.{Ends, number_takes, signed_takes}
-use Rattle.audit_laws.proofs.Lists.{Tells, items_take}
+use Rattle.audit_laws.proofs.Lists.{TakesOff, items_take}
 use Rattle.audit_laws.proofs.Named.{class_takes, class_begins}
 
 -- ---- words
 
 -- a word of a parcel that a history with this past can have
-abbrev pub IsToldWord : Past → Word → Type 0
-IsToldWord past (word.Int n) = mag n < 2 ^ 63
-IsToldWord past (word.Long n) = mag n < 2 ^ 63
-IsToldWord past (word.Node k) = k < 2 ^ 64
-IsToldWord past (word.Portal k c) = (k.0 < 2 ^ 64) × (interface_of past k.0 ≡ Some c)
-IsToldWord past (word.Mem m) = m.0 < 2 ^ 64
-IsToldWord past _ = ⊤
+abbrev pub IsPlainWord : Past → Word → Type 0
+IsPlainWord past (word.Int n) = mag n < 2 ^ 63
+IsPlainWord past (word.Long n) = mag n < 2 ^ 63
+IsPlainWord past (word.Node k) = k < 2 ^ 64
+IsPlainWord past (word.Portal k c) = (k.0 < 2 ^ 64) × (interface_of past k.0 ≡ Some c)
+IsPlainWord past (word.Mem m) = m.0 < 2 ^ 64
+IsPlainWord past _ = ⊤
 
 -- a portal is known by its service
 same_portal : (past : Past) (k l : ServiceId) (c d : ClassId) → interface_of past k.0 ≡ Some c → interface_of past l.0 ≡ Some d → k.0 ≡ l.0 →
@@ -45,8 +45,8 @@ same_portal past k l c d h g e =
 same_object : (m n : ObjectId) → m.0 ≡ n.0 → word.Mem m ≡ word.Mem n
 same_object m n e = ap (λ (k : ℕ). word.Mem (record { 0 = k })) e
 
--- words before rests are told
-word_takes : (past : Past) (x y : Word) (r q : Bytes) → IsToldWord past x → IsToldWord past y → Ends r → Ends q →
+-- words before rests are taken off
+word_takes : (past : Past) (x y : Word) (r q : Bytes) → IsPlainWord past x → IsPlainWord past y → Ends r → Ends q →
     word_text x ++ r ≡ word_text y ++ q → (x ≡ y) × (r ≡ q)
 unfolding word_text
 word_takes past (word.Int m) (word.Int n) r q h k f g e = let c = signed_takes m n r q h k f g (parts_of_cons e).1 in (ap word.Int c.0, c.1)
@@ -70,18 +70,18 @@ word_begins e a b c d f g (word.Node n) r q h = d (parts_of_cons h).0
 word_begins e a b c d f g (word.Portal n i) r q h = f (parts_of_cons h).0
 word_begins e a b c d f g (word.Mem n) r q h = g (parts_of_cons h).0
 
--- words of roots are told
-words_tell_roots : (past : Past) → Tells word_text (IsToldWord past) 124
-words_tell_roots past = record {
+-- words of roots are taken off
+words_take_roots : (past : Past) → TakesOff word_text (IsPlainWord past) 124
+words_take_roots past = record {
   ending = refl;
   no_blank = λ e. omega arith;
   takes = word_takes past;
   begins = word_begins 124 (λ e. omega arith) (λ e. omega arith) (λ e. omega arith) (λ e. omega arith) (λ e. omega arith) (λ e. omega arith);
 }
 
--- words of nodes are told
-words_tell_cells : (past : Past) → Tells word_text (IsToldWord past) 41
-words_tell_cells past = record {
+-- words of nodes are taken off
+words_take_cells : (past : Past) → TakesOff word_text (IsPlainWord past) 41
+words_take_cells past = record {
   ending = refl;
   no_blank = λ e. omega arith;
   takes = word_takes past;
@@ -91,26 +91,26 @@ words_tell_cells past = record {
 -- ---- nodes
 
 -- a node of a parcel that a history with this past can have
-pub record IsToldNode (s : System) (past : Past) (n : Node) : Type 0 where
+pub record IsPlainNode (s : System) (past : Past) (n : Node) : Type 0 where
   pub class : IsClass s n.class.0
-  pub cells : AllByRecursion (IsToldWord past) n.cells
+  pub cells : AllByRecursion (IsPlainWord past) n.cells
 
 -- a node's text before a rest
 node_before : (s : System) (n : Node) (r : Bytes) → node_text s n ++ r ≡ class_text s n.class.0 ++ 40 ∷ (spaced (map word_text n.cells) ++ 41 ∷ r)
 unfolding node_text
 node_before s n r = simp append_assoc
 
--- nodes before rests are told
-node_takes : (s : System) → HasDistinctNames s → (past : Past) (x y : Node) (r q : Bytes) → IsToldNode s past x → IsToldNode s past y → Ends r → Ends q →
+-- nodes before rests are taken off
+node_takes : (s : System) → HasDistinctNames s → (past : Past) (x y : Node) (r q : Bytes) → IsPlainNode s past x → IsPlainNode s past y → Ends r → Ends q →
     node_text s x ++ r ≡ node_text s y ++ q → (x ≡ y) × (r ≡ q)
 node_takes s names past x y r q h k f g e =
     let c = class_takes s names x.class.0 y.class.0 _ _ h.class k.class (sym (node_before s x r) ∙ e ∙ node_before s y q) in
-    let m = items_take word_text (IsToldWord past) 41 (words_tell_cells past) x.cells y.cells r q h.cells k.cells (parts_of_cons c.1).1 in
+    let m = items_take word_text (IsPlainWord past) 41 (words_take_cells past) x.cells y.cells r q h.cells k.cells (parts_of_cons c.1).1 in
     ((λ t. record { class = record { 0 = c.0 t }; cells = m.0 t }), m.1)
 
--- nodes of a parcel are told
-nodes_tell : (s : System) → HasDistinctNames s → (past : Past) → Tells (node_text s) (IsToldNode s past) 93
-nodes_tell s names past = record {
+-- nodes of a parcel are taken off
+nodes_take : (s : System) → HasDistinctNames s → (past : Past) → TakesOff (node_text s) (IsPlainNode s past) 93
+nodes_take s names past = record {
   ending = refl;
   no_blank = λ e. omega arith;
   takes = node_takes s names past;
@@ -120,9 +120,9 @@ nodes_tell s names past = record {
 -- ---- parcels
 
 -- a parcel that a history with this past can have
-pub record IsToldParcel (s : System) (past : Past) (p : Parcel) : Type 0 where
-  pub roots : AllByRecursion (IsToldWord past) p.roots
-  pub nodes : AllByRecursion (IsToldNode s past) p.nodes
+pub record IsPlainParcel (s : System) (past : Past) (p : Parcel) : Type 0 where
+  pub roots : AllByRecursion (IsPlainWord past) p.roots
+  pub nodes : AllByRecursion (IsPlainNode s past) p.nodes
 
 -- a parcel's text before a rest
 parcel_before : (s : System) (p : Parcel) (r : Bytes) →
@@ -130,29 +130,29 @@ parcel_before : (s : System) (p : Parcel) (r : Bytes) →
 unfolding parcel_text
 parcel_before s p r = simp append_assoc
 
--- parcels before rests are told
-pub parcel_takes : (s : System) → HasDistinctNames s → (past : Past) (x y : Parcel) (r q : Bytes) → IsToldParcel s past x → IsToldParcel s past y →
+-- parcels before rests are taken off
+pub parcel_takes : (s : System) → HasDistinctNames s → (past : Past) (x y : Parcel) (r q : Bytes) → IsPlainParcel s past x → IsPlainParcel s past y →
     parcel_text s x ++ r ≡ parcel_text s y ++ q → (x ≡ y) × (r ≡ q)
 parcel_takes s names past x y r q h k e =
-    let c = items_take word_text (IsToldWord past) 124 (words_tell_roots past) x.roots y.roots _ _ h.roots k.roots (parts_of_cons (sym (parcel_before s x r) ∙ e ∙ parcel_before s y q)).1 in
-    let m = items_take (node_text s) (IsToldNode s past) 93 (nodes_tell s names past) x.nodes y.nodes r q h.nodes k.nodes c.1 in
+    let c = items_take word_text (IsPlainWord past) 124 (words_take_roots past) x.roots y.roots _ _ h.roots k.roots (parts_of_cons (sym (parcel_before s x r) ∙ e ∙ parcel_before s y q)).1 in
+    let m = items_take (node_text s) (IsPlainNode s past) 93 (nodes_take s names past) x.nodes y.nodes r q h.nodes k.nodes c.1 in
     ((λ t. record { roots = c.0 t; nodes = m.0 t }), m.1)
 
 -- ---- which parcels those are
 
--- a word that is well made is told
-told_word : (past : Past) (n : ℕ) (w : Word) → n ≤ 1024 → IsWordIn past n w → IsToldWord past w
-told_word past n (word.Int z) few h = omega (arith, h.sfits)
-told_word past n (word.Long z) few h = omega (arith, h.sfits)
-told_word past n (word.Node i) few h = omega arith
-told_word past n (word.Portal i c) few h = (omega (arith, h.0), h.1)
-told_word past n (word.Mem m) few h = omega arith
-told_word past n word.Null few h = tt
+-- a word that is well made is plain
+plain_word : (past : Past) (n : ℕ) (w : Word) → n ≤ 1024 → IsWordIn past n w → IsPlainWord past w
+plain_word past n (word.Int z) few h = omega (arith, h.sfits)
+plain_word past n (word.Long z) few h = omega (arith, h.sfits)
+plain_word past n (word.Node i) few h = omega arith
+plain_word past n (word.Portal i c) few h = (omega (arith, h.0), h.1)
+plain_word past n (word.Mem m) few h = omega arith
+plain_word past n word.Null few h = tt
 
 -- so are such words
-told_words : (past : Past) (n : ℕ) (ws : List Word) → n ≤ 1024 → AllByRecursion (IsWordIn past n) ws → AllByRecursion (IsToldWord past) ws
-told_words past n [] few h = tt
-told_words past n (w ∷ ws) few h = (told_word past n w few h.0, told_words past n ws few h.1)
+plain_words : (past : Past) (n : ℕ) (ws : List Word) → n ≤ 1024 → AllByRecursion (IsWordIn past n) ws → AllByRecursion (IsPlainWord past) ws
+plain_words past n [] few h = tt
+plain_words past n (w ∷ ws) few h = (plain_word past n w few h.0, plain_words past n ws few h.1)
 
 -- what is true of all items is true of the front ones
 all_front : {A : Type 0} (P : A → Type 0) (xs ys : List A) → AllByRecursion P (xs ++ ys) → AllByRecursion P xs
@@ -164,21 +164,21 @@ all_back : {A : Type 0} (P : A → Type 0) (xs ys : List A) → AllByRecursion P
 all_back P [] ys h = h
 all_back P (x ∷ xs) ys h = all_back P xs ys h.1
 
--- nodes of classes that are there, with words that are told, are told
-told_nodes : (s : System) (past : Past) (ns : List Node) → AllByRecursion (λ (n : Node). IsClass s n.class.0) ns →
-    AllByRecursion (IsToldWord past) (flat_map (λ (n : Node). n.cells) ns) → AllByRecursion (IsToldNode s past) ns
-told_nodes s past [] h k = tt
-told_nodes s past (n ∷ ns) h k = (
-  record { class = h.0; cells = all_front (IsToldWord past) n.cells (flat_map (λ (n : Node). n.cells) ns) k },
-  told_nodes s past ns h.1 (all_back (IsToldWord past) n.cells (flat_map (λ (n : Node). n.cells) ns) k),
+-- nodes of classes that are there, with words that are plain, is plain
+plain_nodes : (s : System) (past : Past) (ns : List Node) → AllByRecursion (λ (n : Node). IsClass s n.class.0) ns →
+    AllByRecursion (IsPlainWord past) (flat_map (λ (n : Node). n.cells) ns) → AllByRecursion (IsPlainNode s past) ns
+plain_nodes s past [] h k = tt
+plain_nodes s past (n ∷ ns) h k = (
+  record { class = h.0; cells = all_front (IsPlainWord past) n.cells (flat_map (λ (n : Node). n.cells) ns) k },
+  plain_nodes s past ns h.1 (all_back (IsPlainWord past) n.cells (flat_map (λ (n : Node). n.cells) ns) k),
 )
 
--- a parcel that is well made is told
-pub told_parcel : (s : System) (past : Past) (p : Parcel) → IsParcelIn s past p → IsToldParcel s past p
+-- a parcel that is well made is plain
+pub plain_parcel : (s : System) (past : Past) (p : Parcel) → IsParcelIn s past p → IsPlainParcel s past p
 unfolding parcel_cells node_limit
-told_parcel s past p h =
-    let all = told_words past (length p.nodes) (parcel_cells p) h.few h.cells in
+plain_parcel s past p h =
+    let all = plain_words past (length p.nodes) (parcel_cells p) h.few h.cells in
     record {
-      roots = all_front (IsToldWord past) p.roots (flat_map (λ (n : Node). n.cells) p.nodes) all;
-      nodes = told_nodes s past p.nodes h.classes (all_back (IsToldWord past) p.roots (flat_map (λ (n : Node). n.cells) p.nodes) all);
+      roots = all_front (IsPlainWord past) p.roots (flat_map (λ (n : Node). n.cells) p.nodes) all;
+      nodes = plain_nodes s past p.nodes h.classes (all_back (IsPlainWord past) p.roots (flat_map (λ (n : Node). n.cells) p.nodes) all);
     }

@@ -43,7 +43,7 @@ escape_takes u v r q h k e =
 plain_is : (u v : ℕ) → is_plain u ≡ true → is_plain v ≡ false → u ≡ v → ⊥
 plain_is u v h k e = let f : true ≡ false = sym h ∙ ap is_plain e ∙ k in cc
 
--- units within quotes before rests are told
+-- units within quotes before rests are taken off
 unit_takes : (u v : ℕ) (r q : List ℕ) → u < 2 ^ 16 → v < 2 ^ 16 → unit_text u ++ r ≡ unit_text v ++ q → (u ≡ v) × (r ≡ q)
 unfolding unit_text
 unit_takes u v r q h k e = by (is_plain u) (is_plain v) refl refl e
@@ -65,7 +65,7 @@ no_quote u r q e = by (is_plain u) refl e
 
 -- ---- texts
 
--- texts within quotes, before the closing quote and rests, are told
+-- texts within quotes, before the closing quote and rests, are taken off
 units_takes : (x y : List ℕ) (r q : List ℕ) → AreUnits x → AreUnits y → units_text x ++ 34 ∷ r ≡ units_text y ++ 34 ∷ q → (x ≡ y) × (r ≡ q)
 units_takes [] [] r q h k e = (refl, (parts_of_cons e).1)
 units_takes [] (v ∷ y) r q h k e = absurd (no_quote v _ _ (sym (append_assoc (unit_text v) (units_text y) (34 ∷ q)) ∙ sym e))
@@ -74,7 +74,7 @@ units_takes (u ∷ x) (v ∷ y) r q h k e =
     let c = unit_takes u v _ _ h.0 k.0 (sym (append_assoc (unit_text u) (units_text x) (34 ∷ r)) ∙ e ∙ append_assoc (unit_text v) (units_text y) (34 ∷ q)) in
     let m = units_takes x y r q h.1 k.1 c.1 in ((λ t. c.0 t ∷ m.0 t), m.1)
 
--- quoted texts before rests are told
+-- quoted texts before rests are taken off
 pub quoted_takes : (x y : List ℕ) (r q : List ℕ) → AreUnits x → AreUnits y → quoted x ++ r ≡ quoted y ++ q → (x ≡ y) × (r ≡ q)
 unfolding quoted
 quoted_takes x y r q h k e =

@@ -32,10 +32,10 @@ after_begins : (s : System) (es : List Entry) (past : Past) → lines_after s es
 unfolding lines_after line spaced
 after_begins s es past = refl
 
--- a history of a system with distinct names is told by its audit
-pub audits_tell : (s : System) → HasDistinctNames s → AuditsDiffer s
+-- a history of a system with distinct names has its own audit
+pub audits_differ : (s : System) → HasDistinctNames s → AuditsDiffer s
 unfolding audit_text
-audits_tell s names h k a b e =
+audits_differ s names h k a b e =
     let parts : (x : History) → audit_text s x ≡ line (codes "jx audit 1" ∷ []) ++ (entry_lines s 1 x.entries ++ 99 ∷ later_units (lines_after s x.entries (past_of x))) =
     λ x. append_assoc (line (codes "jx audit 1" ∷ [])) (entry_lines s 1 x.entries) (lines_after s x.entries (past_of x))
     ∙ ap (λ (y : Bytes). line (codes "jx audit 1" ∷ []) ++ (entry_lines s 1 x.entries ++ y)) (after_begins s x.entries (past_of x)) in

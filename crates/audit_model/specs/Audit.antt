@@ -181,7 +181,7 @@ reply_operands s (reply.Pair a b) = decimal a.0 ∷ decimal b.0 ∷ []
 reply_operands s (reply.Domain d g) = decimal d.0 ∷ codes "at" ∷ decimal g ∷ []
 reply_operands s _ = []
 
--- what a computed row opens
+-- what a computed case opens
 unfoldable pub opened_audit : Unit {0}
 unfolding unit_text quoted spaced line class_text template_text method_text word_text node_text parcel_text act_word reason_words exception_words act_operands refusal_word reply_word reply_operands
 opened_audit = tt

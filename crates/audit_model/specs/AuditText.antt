@@ -110,7 +110,7 @@ lines_after s entries past =
 unfoldable pub audit_text : System → History → Bytes
 audit_text s h = line (codes "jx audit 1" ∷ []) ++ entry_lines s 1 h.entries ++ lines_after s h.entries (past_of h)
 
--- what a computed row opens
+-- what a computed case opens
 unfoldable pub opened_audit_text : Unit {0}
 unfolding entry_line entry_lines printed console_line standing_words domain_line call_line total_line before_last end_word_of end_word state_lines total_lines lines_after audit_text
 opened_audit_text = tt

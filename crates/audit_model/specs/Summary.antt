@@ -83,7 +83,7 @@ kind_lines entries k = flat_map (kind_line entries k.0) k.1
 unfoldable pub summary_text : History → Bytes
 summary_text h = flat_map (kind_lines h.entries) kinds
 
--- what a computed row opens
+-- what a computed case opens
 unfoldable pub opened_summary : Unit {0}
 unfolding first_kinds service_kinds memory_kinds ending_kinds kinds is_kind count_line kind_line kind_lines summary_text
 opened_summary = tt

@@ -157,7 +157,7 @@ abbrev pub RefusalsChangeNothing : System → Past → Type 0
 RefusalsChangeNothing s whole =
     (e : Entry) (past : Past) (r : Refusal) → IsMoment whole e past → e.reply ≡ reply.Refused r → ChangesNothingElse s past e r
 
--- what a computed row opens
+-- what a computed case opens
 unfoldable pub opened_growth : Unit {0}
 unfolding new_domain_number new_service_number new_call_number new_object_numbers numbers_given answers_call
 opened_growth = tt

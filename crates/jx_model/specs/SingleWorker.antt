@@ -116,7 +116,7 @@ past_after s (suc k) past = elim (is_over past) [ true ↦ past | false ↦ past
 unfoldable pub single_worker_history : System → List Entry
 single_worker_history s = reverse (past_after s (journal_limit s / 8 + 2) [])
 
--- what a computed row opens
+-- what a computed case opens
 unfoldable pub opened_single_worker : Unit {0}
 unfolding is_yield goes_on last_domain next_above next_domain performed code_act act_of_turn turn_of pick_with_room pick entry_for next_entry past_after single_worker_history
 opened_single_worker = tt

@@ -166,7 +166,7 @@ is_built _ = false
 abbrev pub IsBuilt : Act → Type 0
 IsBuilt a = IsTrue (is_built a)
 
--- what a computed row opens
+-- what a computed case opens
 unfoldable pub opened_well_made : Unit {0}
 unfolding is_portal_in is_word_in is_class is_parcel_in is_exception is_end_reason is_well_made is_built
 opened_well_made = tt

@@ -7,7 +7,7 @@ ghost use Rattle.jx_model.specs.Legal.{IsAdmitted};
 ghost use Rattle.jx_model.specs.Moments.{BeginsWith};
 ghost use Rattle.jx_model.specs.SingleWorker.{IsSingleWorkerHistory, single_worker_history};
 ghost use Rattle.jx_model.specs.WellMade.{IsWellMade, IsWellMadeTest};
-ghost use Rattle.jx_model.specs.WhyNot.{CanBeAsked, IsTold};
+ghost use Rattle.jx_model.specs.WhyNot.{CanBeAsked, IsExplained};
 
 use jx_base::{Act, DomainId, History, System};
 
@@ -43,10 +43,10 @@ pub fn refusals_change_nothing(system: &System, history: &History)
     ensures { RefusalsChangeNothing system.now (past_of history.now) }
 {}
 
-/// An act is permitted exactly where no reason against it is told.
-pub fn reasons_are_told(system: &System, history: &History, domain: DomainId, act: &Act)
+/// An act is permitted exactly where no reason against it is given.
+pub fn reasons_are_given(system: &System, history: &History, domain: DomainId, act: &Act)
     requires { CanBeAsked system.now (past_of history.now) domain.0 act.now }
-    ensures { IsTold system.now (past_of history.now) domain.0 act.now }
+    ensures { IsExplained system.now (past_of history.now) domain.0 act.now }
 {}
 
 /// The test of what is well made says what is.

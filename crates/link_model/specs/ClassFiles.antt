@@ -168,7 +168,7 @@ arrays_of_member f m = elim m.code [ None ↦ [] | Some c ↦ arrays_of_code f c
 unfoldable pub arrays_of : ClassFile → List (List ℕ)
 arrays_of f = flat_map (arrays_of_member f) f.methods
 
--- what a computed row opens
+-- what a computed case opens
 unfoldable pub opened_class_files : Unit {0}
 unfolding constant_in text_of_constant text_in name_of_constant class_name_in selector_of_constant selector_in member_selector this_name super_name interface_names class_of_constant member_of_constant use_by used_by catch_uses uses_of_code uses_of_member uses_of arrays_of_name class_at_index class_mentioned arrays_of_instr arrays_of_code arrays_of_member arrays_of
 opened_class_files = tt

@@ -289,7 +289,7 @@ pub record IsLinkFault (plan : Plan) (files : List ClassFile) (fault : LinkFault
   pub has_files : HasFiles plan files
   pub first : first_link_fault plan files ≡ Some fault
 
--- what a computed row opens
+-- what a computed case opens
 unfoldable pub opened_link_faults : Unit {0}
 unfolding fault_if first_fault has_text listed_name listed_names listed_place is_object_name may_extend may_implement next_above all_above is_above_itself repeated_after repeated_name named_fault class_fault is_main main_fault has_tag_for dimensions_of has_shape_for is_known_plain is_known_type is_known is_field_for calls_static is_method_for has_member missing_kind is_not_made is_abstract_method needs_abstract abstract_name member_fault use_fault uses_fault listing_at template_fault first_link_fault
 opened_link_faults = tt

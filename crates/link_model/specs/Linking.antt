@@ -256,7 +256,7 @@ linked_system plan files =
     let s : System = outline plan files in
     record s { program = record s.program { classes = with_meanings s files 0 s.program.classes } }
 
--- what a computed row opens
+-- what a computed case opens
 unfoldable pub opened_linking : Unit {0}
 unfolding class_number class_id field_of own_fields layout_within layout_of declared_of class_of_file classes_from files_of named_arrays array_names array_class_named linked_classes file_sources file_sources_from built_in_sources_from sources first_selectors_after linked_selectors linked_method outline is_field own_instance_field statics_before own_static_field own_field found_field is_method_of own_method found_method in_class meaning_of meanings_from meanings_of with_meanings linked_system
 opened_linking = tt

@@ -260,7 +260,7 @@ after_act s st t x a r = after_reply s (with_less_fuel st) t x r
 unfoldable pub after_entry : System → State → Entry → State
 after_entry s st e = elim (thread_at st e.thread.0) [ None ↦ st | Some x ↦ after_act s st e.thread.0 x e.act e.reply ]
 
--- what a computed row opens
+-- what a computed case opens
 unfoldable pub opened_after_entry : Unit {0}
 unfolding site_for site_at site_in site_of taken_at result_types after_result after_split exception_of after_reply with_nodes root_values service_object after_built_in after_selection selected_at after_roots parameters_of after_take expected_types after_value thrown_root after_thrown after_resume object_of_value exported_object with_export after_end with_running_thread after_act after_entry
 opened_after_entry = tt

@@ -361,7 +361,7 @@ built_in_outcome s store m args =
       | Some b ↦ b.effect s store args
     ]
 
--- what a computed row opens
+-- what a computed case opens
 unfoldable pub opened_built_in_methods : Unit {0}
 unfolding int_of_bool result_value act_if unit_of text_of text_cells with_new_text is_short constructor identity_test message_constructor first_cell text_length unit_at text_unit is_text text_test hash_of text_hash text_concatenation builder_constructor appended_text appended_number appended_unit appended_bool append_of text_act int_act pause lookup bind interface_named export_of is_thread_count export memory_act memory_int_act memory_ints_act fill copy built_in_method object_effects string_effects builder_effects constructor_effects message_effects zero_effects memory_effects effects_of is_of built_in_outcome
 opened_built_in_methods = tt

@@ -107,7 +107,7 @@ pub record IsInstrOf (s : System) (core : Core) (f : Frame) (callers : List Fram
   pub instruction : IsInstrAt s f i
   pub statics : IfSome (static_named s f i) (λ k. k < length core.store.statics)
 
--- what a computed row opens
+-- what a computed case opens
 unfoldable pub opened_conditions : Unit {0}
 unfolding local_count frame_values store_values core_values static_of static_named
 opened_conditions = tt

@@ -43,7 +43,7 @@ act_in s st =
 unfoldable pub next_act : System → ℕ → Past → NextAct
 next_act s t own = act_in s (state_at_act s (domain_state s t own))
 
--- what a computed row opens
+-- what a computed case opens
 unfoldable pub opened_machine : Unit {0}
 unfolding no_state domain_state act_in next_act
 opened_machine = tt

@@ -97,7 +97,7 @@ after_finish s st t x v = by x.waiting
     by [] = with_stage st t x (Returned v)
     by (m ∷ more) = after_begin s st t (record x { waiting = more }) m (start_arguments s m)
 
--- what a computed row opens
+-- what a computed case opens
 unfoldable pub opened_machine_threads : Unit {0}
 unfolding thread_at with_thread with_store at_rest with_less_fuel core_of idle_thread with_frames with_stage after_throw after_raise after_begin is_initializer_selector start_arguments after_finish
 opened_machine_threads = tt

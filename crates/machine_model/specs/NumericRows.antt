@@ -342,7 +342,7 @@ numeric_row s c most i locals stack =
     let r : Row = row_at i.opcode in
     outcome_or (moving_row s c most r i locals stack) (outcome_or (arithmetic_row most r i locals stack) (branching_row r i locals stack))
 
--- what a computed row opens
+-- what a computed case opens
 unfoldable pub opened_numeric_rows : Unit {0}
 unfolding slots_of depth_of as_reference as_kind int_of long_of top top_int top_long top_reference single double group_of given leaves branches local_of set_local with_local place_of load_row store_row discard_row copy_row swap_row on_ints on_longs unless_by_zero int_divide_row long_divide_row long_shift_row negate_row increment_row convert_row is_wanted is_null is_same if_zero_row if_ints_row if_same_row if_null_row table_place table_row target_of lookup_row long_constant moving_row arithmetic_row branching_row outcome_or numeric_row
 opened_numeric_rows = tt

@@ -468,7 +468,7 @@ object_row_in s core f i =
 unfoldable pub object_row : System → Core → Instr → ObjectOutcome
 object_row s core i = elim core.frames [ [] ↦ BadCode | f ∷ frames ↦ object_row_in s core f i ]
 
--- what a computed row opens
+-- what a computed case opens
 unfoldable pub opened_object_rows : Unit {0}
 unfolding given next_unless_overfull leaves leaves_new literal_of with_literal text_row constant_row is_element_type kind_of component_of component_for place_in at_index load_row store_in store_row length_row new_array_row making_of with_elements with_all_elements nested_arrays ints_of has_negative multi_array_row field_type is_object_of get_field_row fitting_value put_field_row get_static_row put_static_row new_row fits_class check_row instance_row throw_row all_fit taken_arguments with_object with_result built_in_row enter_row run_row portal_row selected_row invoke_at invoke_on invoke_row result_of return_row return_value_row return_void_row name_of_class type_of class_row constant_used_row plain_row uses_constant object_row_in object_row
 opened_object_rows = tt

@@ -110,7 +110,7 @@ after_steps s t (suc k) st = elim (step s st t) [ Step new ↦ after_steps s t k
 unfoldable pub state_at_act : System → State → State
 state_at_act s st = elim st.running [ None ↦ st | Some t ↦ after_steps s t st.fuel st ]
 
--- what a computed row opens
+-- what a computed case opens
 unfoldable pub opened_running : Unit {0}
 unfolding ends_by_bad_code after_numeric after_object row framed_step empty_parcel answer_act result_roots ending_act stage_step step after_steps state_at_act
 opened_running = tt

@@ -78,7 +78,7 @@ start_of s t = after_finish s first 0 (record idle_thread { waiting = initialize
     first : State
     first = record { fuel = t.fuel; store = first_store s t; threads = idle_thread ∷ []; running = Some 0 }
 
--- what a computed row opens
+-- what a computed case opens
 unfoldable pub opened_start : Unit {0}
 unfolding method_places is_static_method_of static_methods started_classes initializers is_main_selector mains object_of first_objects first_store start_of
 opened_start = tt

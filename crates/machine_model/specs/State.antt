@@ -228,7 +228,7 @@ frames_at_handler s thrown r (f ∷ frames) =
       | None ↦ frames_at_handler s thrown r frames
     ]
 
--- what a computed row opens
+-- what a computed case opens
 unfoldable pub opened_state : Unit {0}
 unfolding class_of_object shape_of class_of_shape default_of kept_value new_object new_array default_cells new_exception cells_of with_cell static_types_of static_types code_of code_bytes stack_limit class_of_frame pc_behind with_values frame_behind with_running is_overfull locals_with frame_with frame_of slots_of_method frame_limit slot_limit is_overflow is_caught_by is_handler_for handler_in frames_at_handler
 opened_state = tt

@@ -1,4 +1,4 @@
--- One name that opens every definition, for rows that are computed.
+-- One name that opens every definition, for cases that are computed.
 use Rattle.std.specs.Fmt.{digits}
 use Rattle.std.specs.Int.{int_wrap}
 use Rattle.class_grammar.specs.Flags.{opened_flags}
@@ -46,7 +46,7 @@ use Rattle.audit_model.specs.Audit.{opened_audit}
 use Rattle.audit_model.specs.AuditText.{opened_audit_text}
 use Rattle.audit_model.specs.Summary.{opened_summary}
 
--- what a computed row opens
+-- what a computed case opens
 unfoldable pub opened_model : Unit {0}
 unfolding digits int_wrap opened_basics opened_flags opened_histories opened_journal opened_ranges opened_opcodes opened_instructions opened_arithmetic opened_types opened_built_in opened_lookup opened_parcel_parts opened_parcels opened_numeric_rows opened_state opened_built_in_methods opened_object_rows opened_machine_threads opened_start opened_running opened_after_entry opened_machine opened_conditions opened_plans opened_class_files opened_linking opened_link_faults opened_limits opened_domains opened_threads opened_portals opened_calls opened_memory_objects opened_holding opened_granules opened_bytes opened_replies opened_well_made opened_permits opened_why_not opened_single_worker opened_audit opened_audit_text opened_summary
 opened_model = tt

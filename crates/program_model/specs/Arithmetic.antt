@@ -69,7 +69,7 @@ is_met comparison.AtMost a b = int_le a b
 unfoldable pub order_of : ℤ → ℤ → ℤ
 order_of a b = if int_lt a b then negsuc 0 else if int_lt b a then pos 1 else pos 0
 
--- what a computed row opens
+-- what a computed case opens
 unfoldable pub opened_arithmetic : Unit {0}
 unfolding operation_result negation division_result quotient_or_none shift_result int_shift_result long_shift_result low_bits low_char is_met order_of
 opened_arithmetic = tt

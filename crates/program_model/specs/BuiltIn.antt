@@ -276,7 +276,7 @@ throwable_classes = language_throwables ++ nucleus_exceptions
 unfoldable pub built_in_table : List Class
 built_in_table = plain_classes ++ language_throwables ++ nucleus_classes ++ nucleus_exceptions
 
--- what a computed row opens
+-- what a computed case opens
 unfoldable pub opened_built_in : Unit {0}
 unfolding object_class string_class builder_class throwable_class exception_class runtime_exception arithmetic_exception null_pointer_exception index_exception array_index_exception string_index_exception negative_size_exception class_cast_exception array_store_exception error_class machine_error out_of_memory_error stack_overflow_error portal_class zero_class memory_class copy_exception ended_exception revoked_exception dropped_exception range_exception refused_exception built_in_count method static_method text_field built_in_class class_below constructors throwable_below array_class object_methods string_methods builder_methods zero_methods memory_methods throwable_itself plain_classes language_throwables nucleus_classes nucleus_exceptions throwable_classes built_in_table
 opened_built_in = tt

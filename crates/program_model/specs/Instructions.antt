@@ -39,7 +39,7 @@ operand i k = slice_index_or i.operands k (pos 0)
 unfoldable pub index_operand : Instr → ℕ → ℕ
 index_operand i k = cast_unsigned w32 (operand i k)
 
--- what a computed row opens
+-- what a computed case opens
 unfoldable pub opened_instructions : Unit {0}
 unfolding opened_parts opened_code_grammar reading_of instruction_at instructions_in instructions_of operand index_operand
 opened_instructions = tt

@@ -58,7 +58,7 @@ node_limit = 1024
 unfoldable pub parcel_limit : ℕ
 parcel_limit = 4096
 
--- what a computed row opens
+-- what a computed case opens
 unfoldable pub opened_limits : Unit {0}
 unfolding domain_limit service_limit object_limit allocation_limit granule_limit granule_bytes granule_cells journal_limit entry_limit thread_limit text_limit name_limit node_limit parcel_limit
 opened_limits = tt

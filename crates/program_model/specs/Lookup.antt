@@ -194,7 +194,7 @@ template_at s t = slice_get s.plan.templates t
 unfoldable pub lists_class : System → ℕ → ℕ → Bool
 lists_class s t place = passes (λ x. contains_number x.classes place) (template_at s t)
 
--- what a computed row opens
+-- what a computed case opens
 unfoldable pub opened_lookup : Unit {0}
 unfolding class_at class_named class_count is_built_in is_interface parent_list supers_within supers_of chain_within chain_of is_below class_name_of_type class_of_type type_of_name type_of_class cell_types fits_type object_fits shape_fits shape_fits_class class_fits method_at selector_at selector_of_method constant_at same_selector is_instance_method_of instance_method selected_method has_own_method has_method template_at lists_class
 opened_lookup = tt

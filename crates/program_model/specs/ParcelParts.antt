@@ -39,7 +39,7 @@ node_cells p = sum_by node_size p.nodes
 unfoldable pub parcel_words : Parcel → ℕ
 parcel_words p = length p.roots + node_cells p
 
--- what a computed row opens
+-- what a computed case opens
 unfoldable pub opened_parcel_parts : Unit {0}
 unfolding parcel_cells word_portal word_object parcel_portals parcel_objects node_size node_cells parcel_words
 opened_parcel_parts = tt

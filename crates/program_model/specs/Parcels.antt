@@ -203,7 +203,7 @@ fits_domain s t p = list_all (node_fits s t p.nodes) p.nodes
 abbrev pub FitsDomain : System → ℕ → Parcel → Type 0
 FitsDomain s t p = IsTrue (fits_domain s t p)
 
--- what a computed row opens
+-- what a computed case opens
 unfoldable pub opened_parcels : Unit {0}
 unfolding lesser_export export_at reference_of references_of cells_at object_references walk_rounds walk_of word_of node_of nodes_of parcel_of is_small_parcel packed value_of unpacked_object unpacked_objects base_type is_primitive_type knows_plain_class knows_element knows_class shape_of_word lies_in_cell cell_fits cells_fit node_fits fits_domain
 opened_parcels = tt

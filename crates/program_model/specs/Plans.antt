@@ -57,7 +57,7 @@ pub record IsPlanInRange (plan : Plan) : Type 0 where
   pub class_once : first_texts plan.classes ≡ plan.classes
   pub class_order : firsts (flat_map (λ t. t.classes) plan.templates) ≡ range_with_len 0 (length plan.classes)
 
--- what a computed row opens
+-- what a computed case opens
 unfoldable pub opened_plans : Unit {0}
 unfolding first_texts_after first_texts has_name_length is_template_name is_name_byte has_filled_parts is_reserved is_class_name
 opened_plans = tt

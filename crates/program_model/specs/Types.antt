@@ -108,7 +108,7 @@ cut_to_type type n =
     else if bytes_eq type (codes "S") then low_bits w16 16 n
     else if bytes_eq type (codes "Z") then int_rem_euclid n (pos 2) else n
 
--- what a computed row opens
+-- what a computed case opens
 unfoldable pub opened_types : Unit {0}
 unfolding with_parameters scan_with signature_from signature_of parameter_types result_type is_void is_long_type is_int_type is_reference_type innermost_type is_number_type element_type lies_in_type cut_to_type
 opened_types = tt
