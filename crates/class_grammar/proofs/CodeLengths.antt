@@ -1,6 +1,6 @@
 -- The methods of a class file have less than 2^16 bytes of code.
-use Rattle.std.proofs.Common.{◌≡◌, ℕ, zero, suc, ◌+◌, ◌<◌, ◌≤◌, ◌^◌, Bool, true, false, List, [], ◌∷◌, ◌++◌, length, Option, Some, None, refl, sym, ap, ◌⊎◌, inl, inr, subst, ◌∙◌, arith}
-use Rattle.std.specs.Prelude.{IsTrue, MatchBool, nat_le, ◌&&◌, is_none}
+use Rattle.std.proofs.Common.{◌≡◌, ℕ, zero, suc, ◌<◌, ◌^◌, Bool, true, false, List, [], ◌∷◌, ◌++◌, length, Option, Some, None, sym, ap, ◌⊎◌, inl, inr, subst, arith}
+use Rattle.std.specs.Prelude.{IsTrue, MatchBool, nat_le, ◌&&◌}
 use Rattle.std.specs.List.{AllByRecursion}
 use Rattle.std.proofs.lemmas.Bool.Decides.{nat_tests}
 use Rattle.jx_base.specs.declared.class_file.ClassFile.{ClassFile}
@@ -12,14 +12,16 @@ use Rattle.class_grammar.specs.Parts.{Part, repeated, bytes_of}
 use Rattle.class_grammar.specs.Members.{code_part, code_body, is_code_name, method_attributes, method_part}
 use Rattle.class_grammar.specs.ClassGrammar.{IsClassFile, IsShortCode, HasShortCodes, methods_part, class_file_part}
 
-all_joined : {A : Type 0} (P : A → Type 0) (xs ys : List A) → AllByRecursion P xs → AllByRecursion P ys → AllByRecursion P (xs ++ ys)
+all_joined : {A : Type 0} (P : A → Type 0) (xs ys : List A) → AllByRecursion P xs
+    → AllByRecursion P ys → AllByRecursion P (xs ++ ys)
 all_joined P [] ys p q = q
 all_joined P (x ∷ xs) ys p q = (p.0, all_joined P xs ys p.1 q)
 
 -- what each part means so, all mean so
 pub all_repeated : {A F : Type 0} (P : A → Type 0) (p : Part (List A) F)
     → ((text : List ℕ) (xs : List A) (rest : List ℕ) → p.spells text xs rest → AllByRecursion P xs)
-    → (n : ℕ) (text : List ℕ) (zs : List A) (rest : List ℕ) → (repeated n p).spells text zs rest → AllByRecursion P zs
+    → (n : ℕ) (text : List ℕ) (zs : List A) (rest : List ℕ) → (repeated n p).spells text zs rest
+    → AllByRecursion P zs
 unfolding repeated
 all_repeated {A} P p each zero text zs rest h = subst (λ (zs : List A). AllByRecursion P zs) (sym h.0) tt
 all_repeated {A} P p each (suc n) text zs rest h =
@@ -50,7 +52,8 @@ choice true h = inl h
 choice false h = inr h
 
 short_attributes : (size : ℕ) (constants : List Constant) (may_have : Bool) (k : ℕ) (before : Option Code) (text : List ℕ) (code : Option Code) (rest : List ℕ)
-    → IsShortCode before → (method_attributes size constants may_have k before).spells text code rest → IsShortCode code
+    → IsShortCode before
+    → (method_attributes size constants may_have k before).spells text code rest → IsShortCode code
 unfolding method_attributes
 short_attributes size constants may_have zero before text code rest p h = subst IsShortCode (sym h.0) p
 short_attributes size constants may_have (suc k) before text code rest p h =
@@ -71,7 +74,8 @@ short_method size constants interface text xs rest h =
     subst HasShortCodes (sym code.3.3.0) one
 
 -- so it is of each class file
-pub has_short_codes : (bytes : List ℕ) (file : ClassFile) → IsClassFile bytes file → HasShortCodes file.methods
+pub has_short_codes : (bytes : List ℕ) (file : ClassFile) → IsClassFile bytes file
+    → HasShortCodes file.methods
 unfolding class_file_part methods_part
 has_short_codes bytes file h =
     let methods = h.3.3.3.3 in

@@ -7,8 +7,10 @@ use Rattle.std.proofs.lemmas.List.{take_at, drop_at, take-append-drop, length-ap
 use Rattle.class_grammar.specs.Parts.{Part, onward, to_the_end, ◌>>=◌, ◌>>◌, either, repeated, enclosed, done, refused, demand, no_fault, known, meant, room, at_end, here, bytes_of, number}
 
 pub record IsLawful {A F : Type 0} (p : Part A F) : Type 0 where
-  pub found : (text : List ℕ) (x : A) (rest : List ℕ) → p.reads text ≡ Ok (x, rest) → p.spells text x rest
-  pub only : (text : List ℕ) (x : A) (rest : List ℕ) → p.spells text x rest → p.reads text ≡ Ok (x, rest)
+  pub found : (text : List ℕ) (x : A) (rest : List ℕ) → p.reads text ≡ Ok (x, rest)
+      → p.spells text x rest
+  pub only : (text : List ℕ) (x : A) (rest : List ℕ) → p.spells text x rest
+      → p.reads text ≡ Ok (x, rest)
   pub failed : (text : List ℕ) (f : F) → p.reads text ≡ Err f → p.fails text f
   pub fails_only : (text : List ℕ) (f : F) → p.fails text f → p.reads text ≡ Err f
 
@@ -50,12 +52,14 @@ not_ok x a f e = absurd cc
 
 -- ---- one behind the other
 
-onward_ok : {A B F : Type 0} (r : Result (A × List ℕ) F) (next : A → List ℕ → Result B F) (y : B) → onward r next ≡ Ok y
+onward_ok : {A B F : Type 0} (r : Result (A × List ℕ) F) (next : A → List ℕ → Result B F) (y : B)
+    → onward r next ≡ Ok y
     → (x : A) × (rest : List ℕ) × (r ≡ Ok (x, rest)) × (next x rest ≡ Ok y)
 onward_ok (Ok x) next y e = (x.0, x.1, refl, e)
 onward_ok (Err f) next y e = absurd cc
 
-onward_err : {A B F : Type 0} (r : Result (A × List ℕ) F) (next : A → List ℕ → Result B F) (f : F) → onward r next ≡ Err f
+onward_err : {A B F : Type 0} (r : Result (A × List ℕ) F) (next : A → List ℕ → Result B F) (f : F)
+    → onward r next ≡ Err f
     → (r ≡ Err f) ⊎ ((x : A) × (rest : List ℕ) × (r ≡ Ok (x, rest)) × (next x rest ≡ Err f))
 onward_err (Ok x) next f e = inr (x.0, x.1, refl, e)
 onward_err (Err g) next f e = inl cc
@@ -77,10 +81,12 @@ lawful-bind p q hp hq = record {
   ];
 }
 
-pub lawful-then : {A B F : Type 0} (p : Part A F) (q : Part B F) → IsLawful p → IsLawful q → IsLawful (p >> q)
+pub lawful-then : {A B F : Type 0} (p : Part A F) (q : Part B F) → IsLawful p → IsLawful q
+    → IsLawful (p >> q)
 lawful-then p q hp hq = lawful-bind p (λ x. q) hp (λ x. hq)
 
-pub lawful-either : {A F : Type 0} (test : Bool) (p q : Part A F) → IsLawful p → IsLawful q → IsLawful (either test p q)
+pub lawful-either : {A F : Type 0} (test : Bool) (p q : Part A F) → IsLawful p → IsLawful q
+    → IsLawful (either test p q)
 lawful-either true p q hp hq = hp
 lawful-either false p q hp hq = hq
 
@@ -149,7 +155,8 @@ pub record Tells {A : Type 0} (means : A → Type 0) (value : Option A) : Type 0
   pub told : (x : A) → value ≡ Some x → means x
   pub meant_only : (x : A) → means x → value ≡ Some x
 
-pub lawful-meant : {A F : Type 0} (means : A → Type 0) (value : Option A) (f : F) → Tells means value → IsLawful (meant means value f)
+pub lawful-meant : {A F : Type 0} (means : A → Type 0) (value : Option A) (f : F)
+    → Tells means value → IsLawful (meant means value f)
 lawful-meant {A = A} means None f tells = record {
   found = λ text y rest e. absurd (not_ok y rest f e);
   only = λ text y rest h. let some : None ≡ Some y = tells.meant_only y h.0 in absurd (cc);
@@ -179,7 +186,8 @@ lawful-at_end {F} f = record {
   failed = λ text. failed_at text;
   fails_only = λ text. fails_at text;
 } where
-  found_at : (text : List ℕ) (y : Unit {0}) (rest : List ℕ) → (at_end f).reads text ≡ Ok (y, rest) → (at_end f).spells text y rest
+  found_at : (text : List ℕ) (y : Unit {0}) (rest : List ℕ) → (at_end f).reads text ≡ Ok (y, rest)
+      → (at_end f).spells text y rest
   found_at [] y rest e = (refl, sym (ok_rest {F = F} tt y [] rest e))
   found_at (b ∷ text) y rest e = absurd (not_ok y rest f e)
 
@@ -194,7 +202,8 @@ lawful-at_end {F} f = record {
 -- ---- bytes
 
 -- a test that was made, and what follows
-chosen : {X : Type 0} (b : Bool) (x y z : X) → cond b x y ≡ z → ((b ≡ true) × (x ≡ z)) ⊎ ((b ≡ false) × (y ≡ z))
+chosen : {X : Type 0} (b : Bool) (x y z : X) → cond b x y ≡ z
+    → ((b ≡ true) × (x ≡ z)) ⊎ ((b ≡ false) × (y ≡ z))
 chosen true x y z e = inl (refl, e)
 chosen false x y z e = inr (refl, e)
 
@@ -214,7 +223,8 @@ module _ {A F : Type 0} (f : F) (n : ℕ) (value : List ℕ → A) where
         (omega (arith, length-take n text), sym (take-append-drop n text) ∙ ap (λ (r : List ℕ). take n text ++ r) behind, sym (ok_value {F = F} (value (take n text)) x (drop n text) rest h.1))
   ]
 
-  taking_only : (bytes rest : List ℕ) → length bytes ≡ n → taking (bytes ++ rest) ≡ Ok (value bytes, rest)
+  taking_only : (bytes rest : List ℕ) → length bytes ≡ n
+      → taking (bytes ++ rest) ≡ Ok (value bytes, rest)
   taking_only bytes rest len =
       let long : ltb (length (bytes ++ rest)) n ≡ false = le-ltb _ _ (omega (arith, length-append bytes rest)) in
       rw (long, take_at bytes rest n len, drop_at bytes rest n len) refl
@@ -275,7 +285,8 @@ lawful-none {A} {F} p = record {
   fails_only = λ text f h. absurd h;
 }
 
-pub lawful-repeated : {A F : Type 0} (n : ℕ) (p : Part (List A) F) → IsLawful p → IsLawful (repeated n p)
+pub lawful-repeated : {A F : Type 0} (n : ℕ) (p : Part (List A) F) → IsLawful p
+    → IsLawful (repeated n p)
 unfolding repeated
 lawful-repeated zero p hp = lawful-none p
 lawful-repeated {A} {F} (suc n) p hp =
@@ -316,15 +327,18 @@ module _ {A F : Type 0} (n : ℕ) (f : F) (p : Part A F) (hp : IsLawful p) where
   abbrev inner : List ℕ → Result (A × List ℕ) F
   inner text = onward (p.reads (take n text)) (ending text)
 
-  ending_ok : (text : List ℕ) (x : A) (more : List ℕ) (y : A) (rest : List ℕ) → ending text x more ≡ Ok (y, rest) → (more ≡ []) × (x ≡ y) × (drop n text ≡ rest)
+  ending_ok : (text : List ℕ) (x : A) (more : List ℕ) (y : A) (rest : List ℕ)
+      → ending text x more ≡ Ok (y, rest) → (more ≡ []) × (x ≡ y) × (drop n text ≡ rest)
   ending_ok text x [] y rest e = (refl, ok_value {F = F} x y (drop n text) rest e, ok_rest {F = F} x y (drop n text) rest e)
   ending_ok text x (b ∷ more) y rest e = absurd (not_ok y rest f e)
 
-  ending_err : (text : List ℕ) (x : A) (more : List ℕ) (g : F) → ending text x more ≡ Err g → (more ≢ []) × (g ≡ f)
+  ending_err : (text : List ℕ) (x : A) (more : List ℕ) (g : F) → ending text x more ≡ Err g
+      → (more ≢ []) × (g ≡ f)
   ending_err text x [] g e = absurd (not_err x (drop n text) g e)
   ending_err text x (b ∷ more) g e = ((λ h. absurd (cc)), sym (err_is {A = A × List ℕ} f g e))
 
-  ending_fails : (text : List ℕ) (x : A) (more : List ℕ) (g : F) → more ≢ [] → g ≡ f → ending text x more ≡ Err g
+  ending_fails : (text : List ℕ) (x : A) (more : List ℕ) (g : F) → more ≢ [] → g ≡ f
+      → ending text x more ≡ Err g
   ending_fails text x [] g h same = absurd (h refl)
   ending_fails text x (b ∷ more) g h same = ap (err_of {A = A × List ℕ}) (sym same)
 
@@ -368,11 +382,14 @@ module _ {A F : Type 0} (n : ℕ) (f : F) (p : Part A F) (hp : IsLawful p) where
 -- ---- what lawful parts have
 
 -- a text begins with one meaning at most, has one first fault at most, and not both
-pub one_meaning : {A F : Type 0} (p : Part A F) → IsLawful p → (text : List ℕ) (x y : A) (a b : List ℕ) → p.spells text x a → p.spells text y b → x ≡ y
+pub one_meaning : {A F : Type 0} (p : Part A F) → IsLawful p
+    → (text : List ℕ) (x y : A) (a b : List ℕ) → p.spells text x a → p.spells text y b → x ≡ y
 one_meaning {F = F} p h text x y a b s t = ok_value {F = F} x y a b (sym (h.only text x a s) ∙ h.only text y b t)
 
-pub one_fault : {A F : Type 0} (p : Part A F) → IsLawful p → (text : List ℕ) (f g : F) → p.fails text f → p.fails text g → f ≡ g
+pub one_fault : {A F : Type 0} (p : Part A F) → IsLawful p → (text : List ℕ) (f g : F)
+    → p.fails text f → p.fails text g → f ≡ g
 one_fault {A = A} p h text f g s t = err_is {A = A × List ℕ} f g (sym (h.fails_only text f s) ∙ h.fails_only text g t)
 
-pub not_both : {A F : Type 0} (p : Part A F) → IsLawful p → (text : List ℕ) (x : A) (rest : List ℕ) (f : F) → p.spells text x rest → p.fails text f → ⊥
+pub not_both : {A F : Type 0} (p : Part A F) → IsLawful p
+    → (text : List ℕ) (x : A) (rest : List ℕ) (f : F) → p.spells text x rest → p.fails text f → ⊥
 not_both p h text x rest f s t = not_err x rest f (sym (h.only text x rest s) ∙ h.fails_only text f t)

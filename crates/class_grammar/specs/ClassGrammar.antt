@@ -1,4 +1,5 @@
--- Class files (JVMS 4.1): which bytes are one, which class file they are, and the first fault of those that are none.
+-- Class files (JVMS 4.1): which bytes are one, which class file they are, and the first fault of
+-- those that are none.
 use Rattle.std.specs.Prelude.{ℕ, ◌-◌, ◌<◌, ◌^◌, Option, Some, None, Bool, ◌&&◌, List, [], ◌∷◌, length, ◌==◌, nat_le, nat_lt}
 use Rattle.std.specs.Int.{w16, w32}
 use Rattle.std.specs.List.{AllByRecursion}
@@ -59,13 +60,20 @@ heading_part size constants = do
   super_class ← class_index size constants
   n ← number (cut_off size) w16
   interfaces ← repeated n (interface_part size constants)
-  done (record { flags = flags; this_class = this_class; super_class = super_class; interfaces = interfaces })
+  done (record {
+    flags = flags;
+    this_class = this_class;
+    super_class = super_class;
+    interfaces = interfaces;
+  })
 
 unfoldable pub fields_part : ℕ → List Constant → Part (List Member) ClassFault
-fields_part size constants = number (cut_off size) w16 >>= λ n. repeated n (field_part size constants)
+fields_part size constants =
+    number (cut_off size) w16 >>= λ n. repeated n (field_part size constants)
 
 unfoldable pub methods_part : ℕ → List Constant → Bool → Part (List Member) ClassFault
-methods_part size constants interface = number (cut_off size) w16 >>= λ n. repeated n (method_part size constants interface)
+methods_part size constants interface =
+    number (cut_off size) w16 >>= λ n. repeated n (method_part size constants interface)
 
 -- a whole file of that length, with nothing behind it
 unfoldable pub class_file_part : ℕ → Part ClassFile ClassFault
@@ -109,5 +117,6 @@ HasShortCodes methods = AllByRecursion (λ m. IsShortCode m.code) methods
 
 -- what a computed row opens
 unfoldable pub opened_class_grammar : Unit {0}
-unfolding version_part pool_part interface_part heading_part fields_part methods_part class_file_part
+unfolding version_part pool_part interface_part heading_part fields_part methods_part
+    class_file_part
 opened_class_grammar = tt

@@ -34,7 +34,8 @@ signed_operand w pc = number (past_end pc) w >>= λ n. done (cast_signed w n ∷
 
 -- a target counts from the instruction
 unfoldable pub target_operand : Width → ℕ → Operands
-target_operand w pc = number (past_end pc) w >>= λ n. done (int_wrap w32 (pos pc +ℤ cast_signed w n) ∷ [])
+target_operand w pc =
+    number (past_end pc) w >>= λ n. done (int_wrap w32 (pos pc +ℤ cast_signed w n) ∷ [])
 
 -- an index; two bytes behind it are passed over
 unfoldable pub interface_operands : ℕ → Operands
@@ -78,7 +79,8 @@ table_operands pc = do
   low ← number (past_end pc) w32
   high ← number (past_end pc) w32
   demand (int_le (cast_signed w32 low) (cast_signed w32 high)) (code_fault pc kind.BadRange)
-  targets ← repeated (unsigned_abs (cast_signed w32 high -ℤ cast_signed w32 low) + 1) (target_operand w32 pc)
+  targets ← repeated (unsigned_abs (cast_signed w32 high -ℤ cast_signed w32 low) + 1)
+      (target_operand w32 pc)
   done (default ++ (cast_signed w32 low ∷ cast_signed w32 high ∷ targets))
 
 -- a key, and its target
@@ -146,12 +148,13 @@ behind_opcode pc opcode f = do
 unfoldable pub instruction_part : ℕ → Part Instr CodeFault
 instruction_part pc = number (past_end pc) w8 >>= λ opcode. behind_opcode pc opcode (form_at opcode)
 
--- The bytes begin with these instructions, one behind the other, and the rest stands behind them. The bytes are
--- the last ones of code of that size.
+-- The bytes begin with these instructions, one behind the other, and the rest stands behind them.
+-- The bytes are the last ones of code of that size.
 abbrev pub BeginsWith : ℕ → List ℕ → List Instr → List ℕ → Type 0
 BeginsWith size bytes [] rest = rest ≡ bytes
 BeginsWith size bytes (i ∷ instrs) rest =
-    (middle : List ℕ) × (instruction_part (size - length bytes)).spells bytes i middle × BeginsWith size middle instrs rest
+    (middle : List ℕ) × (instruction_part (size - length bytes)).spells bytes i middle
+    × BeginsWith size middle instrs rest
 
 -- the code is these instructions
 abbrev pub IsSpelledBy : List ℕ → List Instr → Type 0
@@ -197,7 +200,8 @@ starts_at instrs place = list_any (λ (i : Instr). int_eq (pos i.pc) place) inst
 unfoldable pub is_astray : List Instr → Instr → Bool
 is_astray instrs i = not (list_all (starts_at instrs) (targets_of i))
 
--- whether a range is one of these instructions, whose code has that length, and its handler starts one
+-- whether a range is one of these instructions, whose code has that length, and its handler starts
+-- one
 unfoldable pub is_range_of : ℕ → List Instr → Range → Bool
 is_range_of size instrs r =
     starts_at instrs (pos r.start) && starts_at instrs (pos r.handler)
@@ -212,19 +216,24 @@ first_bad_range size instrs table = find (λ r. not (is_range_of size instrs r))
 
 -- ---- code
 
--- the code is these instructions, all targets are instructions, and so are all ranges of the exception table
+-- the code is these instructions, all targets are instructions, and so are all ranges of the
+-- exception table
 pub record IsCode (code : List ℕ) (table : List Range) (instrs : List Instr) : Type 0 where
   pub spelled : IsSpelledBy code instrs
   pub targets : first_astray instrs ≡ None
   pub ranges : first_bad_range (length code) instrs table ≡ None
 
--- the first fault: of the first bytes that are no instruction, else of the first instruction that may branch astray, else of the first bad range
+-- the first fault: of the first bytes that are no instruction, else of the first instruction that
+-- may branch astray, else of the first bad range
 pub data IsFirstFault (code : List ℕ) (table : List Range) (f : CodeFault) : Type 0 where
   of_instruction : (instrs : List Instr) → FailsBehind code instrs f → IsFirstFault code table f
-  of_target : (instrs : List Instr) (i : Instr) → IsSpelledBy code instrs → first_astray instrs ≡ Some i
+  of_target : (instrs : List Instr) (i : Instr) → IsSpelledBy code instrs
+      → first_astray instrs ≡ Some i
       → f ≡ code_fault i.pc kind.Target → IsFirstFault code table f
-  of_range : (instrs : List Instr) (r : Range) → IsSpelledBy code instrs → first_astray instrs ≡ None
-      → first_bad_range (length code) instrs table ≡ Some r → f ≡ code_fault r.start kind.BadRange → IsFirstFault code table f
+  of_range : (instrs : List Instr) (r : Range) → IsSpelledBy code instrs
+      → first_astray instrs ≡ None
+      → first_bad_range (length code) instrs table ≡ Some r → f ≡ code_fault r.start kind.BadRange
+      → IsFirstFault code table f
 
 -- the code has that first fault
 abbrev pub IsCodeFault : List ℕ → List Range → ℕ → CodeKind → Type 0
@@ -237,14 +246,20 @@ unfoldable pub in_front : Instr → Result (List Instr) CodeFault → Result (Li
 in_front i (Ok instrs) = Ok (i ∷ instrs)
 in_front i (Err f) = Err f
 
--- the instructions of the last bytes of code of that size; each takes up a byte, so that many steps come to the end
+-- the instructions of the last bytes of code of that size; each takes up a byte, so that many steps
+-- come to the end
 unfoldable pub instructions_reading : ℕ → ℕ → List ℕ → Result (List Instr) CodeFault
 instructions_reading size k [] = Ok []
 instructions_reading size zero (b ∷ bytes) = Ok []
 instructions_reading size (suc k) (b ∷ bytes) =
-    onward ((instruction_part (size - length (b ∷ bytes))).reads (b ∷ bytes)) (λ i rest. in_front i (instructions_reading size k rest))
+    onward ((instruction_part (size - length (b ∷ bytes))).reads (b ∷ bytes)) (λ i rest.
+    in_front i (instructions_reading size k rest))
 
 -- what a computed row opens
 unfoldable pub opened_code_grammar : Unit {0}
-unfolding unsigned_operand signed_operand target_operand interface_operands array_type_operand dimensions_operands increment_operands padding_length table_operands key_operands keys_rise lookup_operands operands_part wide_part behind_opcode instruction_part table_targets key_targets lookup_targets targets_in targets_of starts_at is_astray is_range_of first_astray first_bad_range in_front instructions_reading
+unfolding unsigned_operand signed_operand target_operand interface_operands array_type_operand
+    dimensions_operands increment_operands padding_length table_operands key_operands keys_rise
+    lookup_operands operands_part wide_part behind_opcode instruction_part table_targets key_targets
+    lookup_targets targets_in targets_of starts_at is_astray is_range_of first_astray
+    first_bad_range in_front instructions_reading
 opened_code_grammar = tt

@@ -15,7 +15,7 @@ use Rattle.jx_base.specs.declared.fault.ClassKind.TheVariants as kind
 abbrev pub class_fault : ℕ → ClassKind → ClassFault
 class_fault at kind = record { at = at; kind = kind }
 
--- the fault of a file that is cut off, which is told at the file's length
+-- the fault of a file that is cut off, which is found at the file's length
 abbrev pub cut_off : ℕ → ClassFault
 cut_off size = class_fault size kind.Truncated
 
@@ -24,8 +24,10 @@ cut_off size = class_fault size kind.Truncated
 -- by number, from 0 on
 unfoldable pub constant_tags : List (Option ConstantTag)
 constant_tags =
-    None ∷ Some tag.Utf8 ∷ None ∷ Some tag.Integer ∷ Some tag.Float ∷ Some tag.Long ∷ Some tag.Double ∷ Some tag.Class ∷ Some tag.Str ∷
-    Some tag.Field ∷ Some tag.Method ∷ Some tag.InterfaceMethod ∷ Some tag.NameAndType ∷ None ∷ None ∷ Some tag.MethodHandle ∷
+    None ∷ Some tag.Utf8 ∷ None ∷ Some tag.Integer ∷ Some tag.Float ∷ Some tag.Long
+    ∷ Some tag.Double ∷ Some tag.Class ∷ Some tag.Str ∷
+    Some tag.Field ∷ Some tag.Method ∷ Some tag.InterfaceMethod ∷ Some tag.NameAndType ∷ None ∷ None
+    ∷ Some tag.MethodHandle ∷
     Some tag.MethodType ∷ None ∷ Some tag.InvokeDynamic ∷ []
 
 -- the tag of that number
@@ -58,15 +60,18 @@ skipped_body size number n = do
 -- what stands behind a tag, which is at a place
 unfoldable pub constant_body : ℕ → ℕ → ConstantTag → Part Constant ClassFault
 constant_body size at tag.Utf8 = utf8_body size at
-constant_body size at tag.Integer = number (cut_off size) w32 >>= λ n. done (constant.Integer (cast_signed w32 n))
+constant_body size at tag.Integer =
+    number (cut_off size) w32 >>= λ n. done (constant.Integer (cast_signed w32 n))
 constant_body size at tag.Float = skipped_body size 4 4
-constant_body size at tag.Long = number (cut_off size) w64 >>= λ n. done (constant.Long (cast_signed w64 n))
+constant_body size at tag.Long =
+    number (cut_off size) w64 >>= λ n. done (constant.Long (cast_signed w64 n))
 constant_body size at tag.Double = skipped_body size 6 8
 constant_body size at tag.Class = number (cut_off size) w16 >>= λ n. done (constant.Class n)
 constant_body size at tag.Str = number (cut_off size) w16 >>= λ n. done (constant.Str n)
 constant_body size at tag.Field = index_pair size >>= λ x. done (constant.Field x.0 x.1)
 constant_body size at tag.Method = index_pair size >>= λ x. done (constant.Method x.0 x.1)
-constant_body size at tag.InterfaceMethod = index_pair size >>= λ x. done (constant.InterfaceMethod x.0 x.1)
+constant_body size at tag.InterfaceMethod =
+    index_pair size >>= λ x. done (constant.InterfaceMethod x.0 x.1)
 constant_body size at tag.NameAndType = index_pair size >>= λ x. done (constant.NameAndType x.0 x.1)
 constant_body size at tag.MethodHandle = skipped_body size 15 3
 constant_body size at tag.MethodType = skipped_body size 16 2
@@ -142,12 +147,14 @@ names_rightly constants (constant.Str n) = names_text constants n
 names_rightly constants (constant.Field c n) = names_member constants c n
 names_rightly constants (constant.Method c n) = names_member constants c n
 names_rightly constants (constant.InterfaceMethod c n) = names_member constants c n
-names_rightly constants (constant.NameAndType n d) = names_text constants n && names_text constants d
+names_rightly constants (constant.NameAndType n d) =
+    names_text constants n && names_text constants d
 names_rightly constants _ = true
 
 -- how many bytes a constant that is passed over takes up
 unfoldable pub skipped_length : ℕ → ℕ
-skipped_length n = if n == 4 then 5 else if n == 6 then 9 else if n == 15 then 4 else if n == 16 then 3 else 5
+skipped_length n =
+    if n == 4 then 5 else if n == 6 then 9 else if n == 15 then 4 else if n == 16 then 3 else 5
 
 -- how many bytes a constant takes up, its tag included
 unfoldable pub constant_length : Constant → ℕ
@@ -167,9 +174,12 @@ constant_length (constant.Skipped n) = skipped_length n
 unfoldable pub misnaming_fault : List Constant → ℕ → List Constant → Option ClassFault
 misnaming_fault constants at [] = None
 misnaming_fault constants at (c ∷ cs) =
-    if names_rightly constants c then misnaming_fault constants (at + constant_length c) cs else Some (class_fault at kind.Index)
+    if names_rightly constants c then misnaming_fault constants (at + constant_length c) cs
+    else Some (class_fault at kind.Index)
 
 -- what a computed row opens
 unfoldable pub opened_constants : Unit {0}
-unfolding constant_tags tag_of index_pair utf8_body skipped_body constant_body constant_part is_double_width constants_part text_of_constant text_at is_text is_class is_name_and_type names_class names_text names_member names_rightly skipped_length constant_length misnaming_fault
+unfolding constant_tags tag_of index_pair utf8_body skipped_body constant_body constant_part
+    is_double_width constants_part text_of_constant text_at is_text is_class is_name_and_type
+    names_class names_text names_member names_rightly skipped_length constant_length misnaming_fault
 opened_constants = tt

@@ -102,11 +102,14 @@ has_floating m = list_any is_floating m.parameters || is_floating_result m.resul
 unfoldable pub object_at : List ℕ → List ℕ → Option (Base × List ℕ)
 object_at name [] = None
 object_at name (u ∷ units) =
-    if u == semicolon then (if length name == 0 then None else Some (Object name, units)) else object_at (name ++ u ∷ []) units
+    if u == semicolon then (if length name == 0 then None else Some (Object name, units))
+    else object_at (name ++ u ∷ []) units
 
 -- the base at the front, and what stands behind it
 unfoldable pub base_at : ℕ → List ℕ → Option (Base × List ℕ)
-base_at u units = if is_number_letter u then Some (Number u, units) else if u == letter_l then object_at [] units else None
+base_at u units =
+    if is_number_letter u then Some (Number u, units)
+    else if u == letter_l then object_at [] units else None
 
 -- a base with its dimensions
 unfoldable pub under_dimensions : ℕ → Option (Base × List ℕ) → Option (FieldType × List ℕ)
@@ -116,7 +119,8 @@ under_dimensions n (Some x) = Some (record { dimensions = n; base = x.0 }, x.1)
 -- the type at the front behind so many dimensions, and what stands behind it
 unfoldable pub type_at : ℕ → List ℕ → Option (FieldType × List ℕ)
 type_at n [] = None
-type_at n (u ∷ units) = if u == bracket then type_at (suc n) units else under_dimensions n (base_at u units)
+type_at n (u ∷ units) =
+    if u == bracket then type_at (suc n) units else under_dimensions n (base_at u units)
 
 -- what was read, where nothing is left
 unfoldable pub whole_type : Option (FieldType × List ℕ) → Option FieldType
@@ -128,11 +132,13 @@ unfoldable pub field_type_of : List ℕ → Option FieldType
 field_type_of text = whole_type (type_at 0 text)
 
 -- a type in front of others
-unfoldable pub with_type : FieldType → Option (List FieldType × List ℕ) → Option (List FieldType × List ℕ)
+unfoldable pub with_type : FieldType → Option (List FieldType × List ℕ)
+    → Option (List FieldType × List ℕ)
 with_type t None = None
 with_type t (Some x) = Some (t ∷ x.0, x.1)
 
--- the types up to the closing parenthesis, of which there are at most so many, and what stands behind it
+-- the types up to the closing parenthesis, of which there are at most so many, and what stands
+-- behind it
 unfoldable pub types_at : ℕ → List ℕ → Option (List FieldType × List ℕ)
 types_at n [] = None
 types_at zero (u ∷ units) = if u == closing then Some ([], units) else None
@@ -156,9 +162,14 @@ with_result types (Some r) = Some (record { parameters = types; result = r })
 unfoldable pub method_type_of : List ℕ → Option MethodType
 method_type_of [] = None
 method_type_of (u ∷ units) =
-    if u == opening then elim (types_at (length units) units) [ None ↦ None | Some x ↦ with_result x.0 (result_of x.1) ] else None
+    if u == opening then elim (types_at (length units) units) [
+      | None ↦ None
+      | Some x ↦ with_result x.0 (result_of x.1)
+    ] else None
 
 -- what a computed row opens
 unfoldable pub opened_descriptors : Unit {0}
-unfolding is_number_letter base_text type_text result_text method_type_text is_floating_base is_floating is_floating_result has_floating object_at base_at under_dimensions type_at whole_type field_type_of with_type types_at result_of with_result method_type_of
+unfolding is_number_letter base_text type_text result_text method_type_text is_floating_base
+    is_floating is_floating_result has_floating object_at base_at under_dimensions type_at
+    whole_type field_type_of with_type types_at result_of with_result method_type_of
 opened_descriptors = tt

@@ -13,8 +13,8 @@ use Rattle.jx_base.specs.declared.class_file.Range.{Range}
 use Rattle.jx_base.specs.declared.fault.ClassFault.{ClassFault}
 use Rattle.jx_base.specs.declared.fault.ClassKind.TheVariants as kind
 
--- In each part `size` is the file's length, or within an attribute the place of its end; `cut` is the fault where
--- bytes are missing, and `constants` are those of the class.
+-- In each part `size` is the file's length, or within an attribute the place of its end; `cut` is
+-- the fault where bytes are missing, and `constants` are those of the class.
 
 -- ---- names
 
@@ -72,7 +72,7 @@ table_part size cut constants = do
   n ← number cut w16
   repeated n (range_part size cut constants)
 
--- what a Code holds; each fault of its own lengths is told at the attribute
+-- what a Code holds; each fault of its own lengths is found at the attribute
 unfoldable pub code_part : ℕ → ClassFault → List Constant → Part Code ClassFault
 code_part size cut constants = do
   max_stack ← number cut w16
@@ -83,7 +83,13 @@ code_part size cut constants = do
   code ← bytes_of cut n
   table ← table_part size cut constants
   skipped_attributes size cut constants
-  done (record { max_stack = max_stack; max_locals = max_locals; at = at; code = code; table = table })
+  done (record {
+    max_stack = max_stack;
+    max_locals = max_locals;
+    at = at;
+    code = code;
+    table = table;
+  })
 
 -- a Code that takes up so many bytes
 unfoldable pub code_body : ℕ → ℕ → List Constant → ℕ → Part Code ClassFault
@@ -98,7 +104,8 @@ unfoldable pub is_code_name : List ℕ → Bool
 is_code_name name = bytes_eq name (codes "Code")
 
 -- a method's attributes, so many of them, where the code that was found so far is given
-unfoldable pub method_attributes : ℕ → List Constant → Bool → ℕ → Option Code → Part (Option Code) ClassFault
+unfoldable pub method_attributes : ℕ → List Constant → Bool → ℕ → Option Code
+    → Part (Option Code) ClassFault
 method_attributes size constants may_have zero code = done code
 method_attributes size constants may_have (suc k) code = do
   at ← here size
@@ -114,7 +121,8 @@ method_attributes size constants may_have (suc k) code = do
         bytes ← bytes_of (cut_off size) n
         method_attributes size constants may_have k code)
 
--- whether the profile has such a method: no floats, no native or synchronized ones, and in an interface none with code but the initialiser
+-- whether the profile has such a method: no floats, no native or synchronized ones, and in an
+-- interface none with code but the initialiser
 unfoldable pub is_supported_method : Bool → ℕ → List ℕ → MethodType → Bool
 is_supported_method interface flags name type =
     not (has_floating type) && not (is_native flags) && not (is_synchronized flags)
@@ -127,7 +135,8 @@ method_part size constants interface = do
   name ← name_part size (cut_off size) constants
   descriptor_at ← here size
   descriptor ← name_part size (cut_off size) constants
-  type ← meant (IsMethodDescriptor descriptor) (method_type_of descriptor) (class_fault descriptor_at kind.Descriptor)
+  type ← meant (IsMethodDescriptor descriptor) (method_type_of descriptor)
+      (class_fault descriptor_at kind.Descriptor)
   demand (is_supported_method interface flags name type) (class_fault at kind.Unsupported)
   n ← number (cut_off size) w16
   code ← method_attributes size constants (not (is_abstract flags)) n None
@@ -143,12 +152,15 @@ field_part size constants = do
   name ← name_part size (cut_off size) constants
   descriptor_at ← here size
   descriptor ← name_part size (cut_off size) constants
-  type ← meant (IsFieldDescriptor descriptor) (field_type_of descriptor) (class_fault descriptor_at kind.Descriptor)
+  type ← meant (IsFieldDescriptor descriptor) (field_type_of descriptor)
+      (class_fault descriptor_at kind.Descriptor)
   demand (not (is_floating type)) (class_fault at kind.Unsupported)
   skipped_attributes size (cut_off size) constants
   done (record { flags = flags; name = name; descriptor = descriptor; code = None } ∷ [])
 
 -- what a computed row opens
 unfoldable pub opened_members : Unit {0}
-unfolding name_part class_index skipped_attribute skipped_attributes catches_class range_part table_part code_part code_body is_code_name method_attributes is_supported_method method_part field_part
+unfolding name_part class_index skipped_attribute skipped_attributes catches_class range_part
+    table_part code_part code_body is_code_name method_attributes is_supported_method method_part
+    field_part
 opened_members = tt

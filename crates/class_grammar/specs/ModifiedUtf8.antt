@@ -43,10 +43,12 @@ unit_of_three b c d = (b - 0xe0) * 4096 + (c - 0x80) * 64 + (d - 0x80)
 
 -- whether two bytes, and three, are the shortest form of a unit
 unfoldable pub is_two : ℕ → ℕ → Bool
-is_two b c = begins_two b && is_continuation c && (nat_le 0x80 (unit_of_two b c) || (unit_of_two b c == 0))
+is_two b c =
+    begins_two b && is_continuation c && (nat_le 0x80 (unit_of_two b c) || (unit_of_two b c == 0))
 
 unfoldable pub is_three : ℕ → ℕ → ℕ → Bool
-is_three b c d = begins_three b && is_continuation c && is_continuation d && nat_le 0x800 (unit_of_three b c d)
+is_three b c d =
+    begins_three b && is_continuation c && is_continuation d && nat_le 0x800 (unit_of_three b c d)
 
 -- the text with a unit in front, where it is one
 unfoldable pub with_unit : ℕ → Option (List ℕ) → Option (List ℕ)
@@ -67,5 +69,6 @@ text_of_bytes (b ∷ c ∷ d ∷ bytes) =
 
 -- what a computed row opens
 unfoldable pub opened_utf8 : Unit {0}
-unfolding unit_bytes is_continuation begins_one begins_two begins_three unit_of_two unit_of_three is_two is_three with_unit text_of_bytes
+unfolding unit_bytes is_continuation begins_one begins_two begins_three unit_of_two unit_of_three
+    is_two is_three with_unit text_of_bytes
 opened_utf8 = tt

@@ -1,20 +1,28 @@
--- Grammars: the parts of a text, one behind the other, and the first fault of a text that they do not make up.
+-- Grammars: the parts of a text, one behind the other, and the first fault of a text that they do
+-- not make up.
 use Rattle.std.specs.Prelude.{◌≡◌, ◌≢◌, ℕ, zero, suc, ◌-◌, ◌<◌, ◌≤◌, ◌⊎◌, List, [], ◌∷◌, ◌++◌, length, take, drop, Option, Some, None, Result, Ok, Err, Bool, false, IsTrue, MatchBool, nat_lt, if◌then◌else◌}
 use Rattle.std.specs.Int.{Width, byte_len, from_be_bytes}
 
 -- A part of a text.
--- `spells text x rest`: the text begins with the part, which means x, and the rest stands behind it.
+-- `spells text x rest`: the text begins with the part, which means x, and the rest stands behind.
 -- `fails text f`: the text does not begin with the part, and f is the first fault.
--- `reads text`: what reading from left to right gives. By the laws of parts it tells the same as the two facts.
+-- `reads text`: what reading from left to right gives. By the laws of parts it says the same as
+-- the two facts.
 pub record Part (A F : Type 0) : Type 1 where
   pub spells : List ℕ → A → List ℕ → Type 0
   pub fails : List ℕ → F → Type 0
   pub reads : List ℕ → Result (A × List ℕ) F
 
 -- what is read next, where reading has not failed
-abbrev pub onward : {A B F : Type 0} → Result (A × List ℕ) F → (A → List ℕ → Result B F) → Result B F
+abbrev pub onward : {A B F : Type 0} → Result (A × List ℕ) F → (A → List ℕ → Result B F)
+    → Result B F
 onward (Ok x) next = next x.0 x.1
 onward (Err f) next = Err f
+
+-- what was read before, and what is read now
+abbrev pub with_front : {A F : Type 0} → List A → Result (List A × List ℕ) F
+    → Result (List A × List ℕ) F
+with_front front reading = onward reading (λ xs rest. Ok (front ++ xs, rest))
 
 -- what was read, where nothing is left
 abbrev pub to_the_end : {A F : Type 0} → A → List ℕ → F → Result A F
@@ -27,8 +35,11 @@ to_the_end x (b ∷ rest) f = Err f
 infixl 10 ◌>>=◌
 abbrev pub ◌>>=◌ : {A B F : Type 0} → Part A F → (A → Part B F) → Part B F
 p >>= q = record {
-  spells = λ text y rest. (x : _) × (middle : List ℕ) × p.spells text x middle × (q x).spells middle y rest;
-  fails = λ text f. p.fails text f ⊎ ((x : _) × (middle : List ℕ) × p.spells text x middle × (q x).fails middle f);
+  spells = λ text y rest. (x : _) × (middle : List ℕ) × p.spells text x middle
+      × (q x).spells middle y rest;
+  fails = λ text f.
+      p.fails text f
+      ⊎ ((x : _) × (middle : List ℕ) × p.spells text x middle × (q x).fails middle f);
   reads = λ text. onward (p.reads text) (λ x rest. (q x).reads rest);
 }
 
@@ -54,22 +65,28 @@ repeated zero p = record {
 }
 repeated (suc n) p = record {
   spells = λ text zs rest.
-      (xs ys : List _) × (middle : List ℕ) × p.spells text xs middle × (repeated n p).spells middle ys rest × (zs ≡ xs ++ ys);
-  fails = λ text f. p.fails text f ⊎ ((xs : List _) × (middle : List ℕ) × p.spells text xs middle × (repeated n p).fails middle f);
-  reads = λ text. onward (p.reads text) (λ xs middle. onward ((repeated n p).reads middle) (λ ys rest. Ok (xs ++ ys, rest)));
+      (xs ys : List _) × (middle : List ℕ) × p.spells text xs middle
+      × (repeated n p).spells middle ys rest × (zs ≡ xs ++ ys);
+  fails = λ text f.
+      p.fails text f
+      ⊎ ((xs : List _) × (middle : List ℕ) × p.spells text xs middle × (repeated n p).fails middle f);
+  reads = λ text. onward (p.reads text) (λ xs middle. with_front xs ((repeated n p).reads middle));
 }
 
 -- a part that takes up just n bytes
 abbrev pub enclosed : {A F : Type 0} → ℕ → F → Part A F → Part A F
 enclosed n f p = record {
-  spells = λ text x rest. (front : List ℕ) × (length front ≡ n) × (text ≡ front ++ rest) × p.spells front x [];
+  spells = λ text x rest. (front : List ℕ) × (length front ≡ n) × (text ≡ front ++ rest)
+      × p.spells front x [];
   fails = λ text g.
       ((length text < n) × (g ≡ f))
       ⊎ ((n ≤ length text) × p.fails (take n text) g)
-      ⊎ ((n ≤ length text) × (x : _) × (more : List ℕ) × p.spells (take n text) x more × (more ≢ []) × (g ≡ f));
+      ⊎ ((n ≤ length text) × (x : _) × (more : List ℕ) × p.spells (take n text) x more
+      × (more ≢ []) × (g ≡ f));
   reads = λ text.
       if nat_lt (length text) n then Err f
-      else onward (p.reads (take n text)) (λ x more. onward (to_the_end (x, drop n text) more f) (λ x rest. Ok (x, rest)));
+      else onward (p.reads (take n text)) (λ x more.
+      onward (to_the_end (x, drop n text) more f) (λ x rest. Ok (x, rest)));
 }
 
 -- ---- parts without bytes
@@ -159,9 +176,12 @@ bytes_of f n = record {
 -- an unsigned number of that width, the highest byte first
 unfoldable pub number : {F : Type 0} → F → Width → Part ℕ F
 number f w = record {
-  spells = λ text n rest. (bytes : List ℕ) × (length bytes ≡ byte_len w) × (text ≡ bytes ++ rest) × (n ≡ from_be_bytes w bytes);
+  spells = λ text n rest. (bytes : List ℕ) × (length bytes ≡ byte_len w) × (text ≡ bytes ++ rest)
+      × (n ≡ from_be_bytes w bytes);
   fails = λ text g. (length text < byte_len w) × (g ≡ f);
-  reads = λ text. if nat_lt (length text) (byte_len w) then Err f else Ok (from_be_bytes w (take (byte_len w) text), drop (byte_len w) text);
+  reads = λ text.
+      if nat_lt (length text) (byte_len w) then Err f
+      else Ok (from_be_bytes w (take (byte_len w) text), drop (byte_len w) text);
 }
 
 -- what a computed row opens

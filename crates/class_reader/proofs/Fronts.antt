@@ -1,8 +1,8 @@
 -- Reading parts one after the other, where a reader may also run out of memory.
 use Rattle.std.proofs.Common.{◌≡◌, ℕ, ◌-◌, ◌<◌, List, [], Result, Ok, Err, refl}
 use Rattle.jx_base.specs.declared.fault.ClassFault.{ClassFault}
-use Rattle.class_grammar.specs.Parts.{Part, repeated}
-use Rattle.class_grammar.proofs.Repeats.{with_front, goes_on, ends, is_done}
+use Rattle.class_grammar.specs.Parts.{Part, repeated, with_front}
+use Rattle.class_grammar.proofs.Repeats.{goes_on, ends, is_done}
 use Rattle.class_reader.specs.declared.error.ReadFault.{ReadFault}
 use Rattle.class_reader.specs.declared.error.ReadFault.TheVariants as fault
 use Rattle.class_reader.specs.Reading.{Fails}

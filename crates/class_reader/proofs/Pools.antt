@@ -7,9 +7,8 @@ use Rattle.jx_base.specs.declared.class_file.Constant.{Constant}
 use Rattle.jx_base.specs.declared.class_file.Constant.TheVariants as constant
 use Rattle.jx_base.specs.declared.fault.ClassFault.{ClassFault}
 use Rattle.jx_base.specs.declared.fault.ClassKind.TheVariants as kind
-use Rattle.class_grammar.specs.Parts.{onward}
+use Rattle.class_grammar.specs.Parts.{onward, with_front}
 use Rattle.class_grammar.specs.Constants.{class_fault, constant_part, constants_part, constant_length, is_double_width, names_rightly, misnaming_fault}
-use Rattle.class_grammar.proofs.Repeats.{with_front}
 use Rattle.class_reader.specs.declared.error.ReadFault.{ReadFault}
 use Rattle.class_reader.specs.declared.error.ReadFault.TheVariants as fault
 use Rattle.class_reader.specs.Pools.{index_count, entries, constants_length}

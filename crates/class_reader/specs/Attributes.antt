@@ -23,8 +23,3 @@ method_attribute size constants may_have code = do
       (do
         bytes ← bytes_of (cut_off size) n
         done code)
-
--- what a computed row opens
-unfoldable pub opened_attributes : Unit {0}
-unfolding method_attribute
-opened_attributes = tt

@@ -16,8 +16,3 @@ entries c = if is_double_width c then c ∷ constant.Unusable ∷ [] else c ∷ 
 unfoldable pub constants_length : List Constant → ℕ
 constants_length [] = 0
 constants_length (c ∷ cs) = constant_length c + constants_length cs
-
--- what a computed row opens
-unfoldable pub opened_pools : Unit {0}
-unfolding index_count entries constants_length
-opened_pools = tt

@@ -1,8 +1,8 @@
 -- A part with a fault ends all reading.
 use Rattle.std.proofs.Common.{◌≡◌, ℕ, ◌-◌, ◌<◌, List, Result}
-use Rattle.class_grammar.specs.Parts.{Part, repeated}
+use Rattle.class_grammar.specs.Parts.{Part, repeated, with_front}
 use Rattle.jx_base.specs.declared.fault.CodeFault.{CodeFault}
-use Rattle.class_grammar.proofs.Repeats.{with_front, ends}
+use Rattle.class_grammar.proofs.Repeats.{ends}
 use Rattle.code_reader.specs.declared.error.CodeError.{CodeError}
 use Rattle.code_reader.specs.declared.error.CodeError.TheVariants as error
 use Rattle.code_reader.specs.Readings.{Fails}

@@ -62,8 +62,3 @@ IsToldBy size table instrs (Some f) = placed size table instrs ≡ Err f
 abbrev pub TellsFault : List ℕ → List Range → CodeError → Type 0
 TellsFault code table (error.Bad f) = IsCodeFault code table f.pc f.kind
 TellsFault code table error.OutOfMemory = Unit {0}
-
--- what a computed row opens
-unfoldable pub opened_code_reading : Unit {0}
-unfolding is_marked leads_astray is_good_range code_reading
-opened_code_reading = tt

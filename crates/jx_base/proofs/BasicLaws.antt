@@ -7,15 +7,18 @@ use Rattle.jx_base.specs.Basics.{up_to, passes}
 pub ap2 : {A B C : Type 0} (f : A → B → C) {a x : A} {b y : B} → a ≡ x → b ≡ y → f a b ≡ f x y
 ap2 f p q = cc
 
-pub ap3 : {A B C D : Type 0} (f : A → B → C → D) {a x : A} {b y : B} {c z : C} → a ≡ x → b ≡ y → c ≡ z → f a b c ≡ f x y z
+pub ap3 : {A B C D : Type 0} (f : A → B → C → D) {a x : A} {b y : B} {c z : C} → a ≡ x → b ≡ y
+    → c ≡ z → f a b c ≡ f x y z
 ap3 f p q r = cc
 
 -- a case by a test that is known
-pub pick_true : {A : Type 0} (b : Bool) (x y : A) → b ≡ true → (elim b as (λ _. A) [ true ↦ x | false ↦ y ]) ≡ x
+pub pick_true : {A : Type 0} (b : Bool) (x y : A) → b ≡ true
+    → (elim b as (λ _. A) [ true ↦ x | false ↦ y ]) ≡ x
 pick_true true x y h = refl
 pick_true false x y h = cc
 
-pub pick_false : {A : Type 0} (b : Bool) (x y : A) → b ≡ false → (elim b as (λ _. A) [ true ↦ x | false ↦ y ]) ≡ y
+pub pick_false : {A : Type 0} (b : Bool) (x y : A) → b ≡ false
+    → (elim b as (λ _. A) [ true ↦ x | false ↦ y ]) ≡ y
 pick_false true x y h = cc
 pick_false false x y h = refl
 
@@ -42,13 +45,15 @@ pub same_number : (x : ℕ) → (x == x) ≡ true
 same_number x = grind (arith, nat_tests)
 
 -- a test of a value that passes
-pub passed : {A : Type 0} (p : A → Bool) (o : Option A) → passes p o ≡ true → (x : A) × (o ≡ Some x) × (p x ≡ true)
+pub passed : {A : Type 0} (p : A → Bool) (o : Option A) → passes p o ≡ true
+    → (x : A) × (o ≡ Some x) × (p x ≡ true)
 unfolding passes
 passed p None h = cc
 passed p (Some x) h = (x, refl, h)
 
 -- the first number of a range that passes
-pub found : (p : ℕ → Bool) (a n x : ℕ) → find p (range_with_len a n) ≡ Some x → (p x ≡ true) × (a ≤ x) × (x < a + n)
+pub found : (p : ℕ → Bool) (a n x : ℕ) → find p (range_with_len a n) ≡ Some x
+    → (p x ≡ true) × (a ≤ x) × (x < a + n)
 found p a zero x h = cc
 found p a (suc n) x h = by (p a) refl h (found p (a + 1) n x)
   where
@@ -58,7 +63,8 @@ found p a (suc n) x h = by (p a) refl h (found p (a + 1) n x)
     by false e h again = let r = again h in (r.0, omega (arith, r.1), omega (arith, r.2))
 
 -- a range of which no number passes
-pub none_found : (p : ℕ → Bool) (a n : ℕ) → find p (range_with_len a n) ≡ None → (x : ℕ) → a ≤ x → x < a + n → p x ≡ false
+pub none_found : (p : ℕ → Bool) (a n : ℕ) → find p (range_with_len a n) ≡ None → (x : ℕ) → a ≤ x
+    → x < a + n → p x ≡ false
 none_found p a zero h x l u = absurd (omega (arith, l, u))
 none_found p a (suc n) h x l u = by (p a) refl h (none_found p (a + 1) n)
   where
@@ -74,7 +80,8 @@ none_found p a (suc n) h x l u = by (p a) refl h (none_found p (a + 1) n)
         here false q = let d = differs a x q in again h x (omega (arith, l, d)) (omega (arith, u))
 
 -- ranges end to end
-pub range_append : (a n k : ℕ) → range_with_len a (n + k) ≡ range_with_len a n ++ range_with_len (a + n) k
+pub range_append : (a n k : ℕ)
+    → range_with_len a (n + k) ≡ range_with_len a n ++ range_with_len (a + n) k
 range_append a zero k = rw (zero_left k) (ap (λ (x : ℕ). range_with_len x k) (omega arith))
   where
     zero_left : (k : ℕ) → 0 + k ≡ k

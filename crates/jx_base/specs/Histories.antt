@@ -1,4 +1,5 @@
--- Parts of a history. A past is a list of entries with the newest first: what came before an entry is the rest of the list behind it.
+-- Parts of a history. A past is a list of entries with the newest first: what came before an entry
+-- is the rest of the list behind it.
 use Rattle.std.specs.Prelude.{ℕ, ◌+◌, Bool, true, false, List, [], ◌∷◌, reverse, Option, Some, None, ◌&&◌, ◌==◌, if◌then◌else◌, filter}
 use Rattle.jx_base.specs.declared.act.Reply.{Reply}
 use Rattle.jx_base.specs.declared.act.Reply.TheVariants as reply
@@ -34,7 +35,8 @@ count_where p (e ∷ past) = count_where p past + (if p e then 1 else 0)
 -- the n-th entry that passes, counted from 1: the one before which n - 1 pass
 unfoldable pub nth_entry : (Entry → Bool) → Past → ℕ → Option Entry
 nth_entry p [] n = None
-nth_entry p (e ∷ past) n = elim (p e && (n == count_where p past + 1)) [ true ↦ Some e | false ↦ nth_entry p past n ]
+nth_entry p (e ∷ past) n =
+    elim (p e && (n == count_where p past + 1)) [ true ↦ Some e | false ↦ nth_entry p past n ]
 
 -- what a computed case opens
 unfoldable pub opened_histories : Unit {0}

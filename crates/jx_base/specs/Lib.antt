@@ -1,4 +1,5 @@
 pub mod Basics
+pub mod Answers
 pub mod Histories
 pub mod Faults
 pub mod Files

@@ -13,9 +13,10 @@ pub enum Reason {
     BadCode,
 }
 
-/// What a domain asks of the nucleus, a choice of the nucleus (`Take`, `Resume`, `Go`), or an act of
-/// Domain Zero (`Create`, `Quiet`, `Halt`). `Create` has the place of a template in the plan. Texts have
-/// at most 4,096 units. Offsets and counts of memory objects are in bytes; a width is 1, 2 or 4.
+/// What a domain asks of the nucleus, a choice of the nucleus (`Take`, `Resume`, `Go`), or an act
+/// of Domain Zero (`Create`, `Quiet`, `Halt`). `Create` has the place of a template in the plan.
+/// Texts have at most 4,096 units. Offsets and counts of memory objects are in bytes; a width is 1,
+/// 2 or 4.
 #[derive(Drop)]
 pub enum Act {
     Create(u32),
@@ -114,7 +115,8 @@ pub enum Refusal {
     NotLive,
 }
 
-/// What the nucleus answers. `Made` and `Domain` carry the first granule of the extent or of the heap.
+/// What the nucleus answers. `Made` and `Domain` carry the first granule of the extent or of the
+/// heap.
 #[derive(Drop)]
 pub enum Reply {
     Done,

@@ -1,9 +1,13 @@
 //! What a class file holds (JVMS 4), and its instructions (JVMS 6).
+ghost use Rattle.std.specs.Prelude.{◌≡◌, IfOk};
 
+use crate::OutOfMemory;
 use crate::listed::{Listed, Numbers, Text};
+use std::alloc::Global;
 
 /// An instruction. The operands are those of its form, in order, without padding, and each branch
-/// target as its pc. Of a wide instruction, `pc` is that of the wide byte and `opcode` the widened one.
+/// target as its pc. Of a wide instruction, `pc` is that of the wide byte and `opcode` the widened
+/// one.
 #[derive(Drop)]
 pub struct Instr {
     pub pc: u32,
@@ -21,8 +25,8 @@ pub struct Range {
     pub catch_type: u32,
 }
 
-/// The body of a method (JVMS 4.7.3). Stack and locals are in slots of 32 bits; `at` is the place of
-/// the code's first byte in the file.
+/// The body of a method (JVMS 4.7.3). Stack and locals are in slots of 32 bits; `at` is the place
+/// of the code's first byte in the file.
 #[derive(Drop)]
 pub struct Code {
     pub max_stack: u32,
@@ -30,6 +34,21 @@ pub struct Code {
     pub at: u32,
     pub code: Listed<u8>,
     pub table: Listed<Range>,
+}
+
+impl Code {
+    /// The same code once more.
+    pub fn copy(&self, alloc: Global) -> Result<Code, OutOfMemory>
+        ensures { IfOk result (λ code. code ≡ self.now) }
+    {
+        Ok(Code {
+            max_stack: self.max_stack,
+            max_locals: self.max_locals,
+            at: self.at,
+            code: self.code.copy(alloc)?,
+            table: self.table.copy(alloc)?,
+        })
+    }
 }
 
 /// A field or a method (JVMS 4.5, 4.6).

@@ -37,8 +37,8 @@ fn is_reserved(name: &[u8]) -> bool
     name.starts_with(b"java/") || name.starts_with(b"jx/")
 }
 
-/// Whether a description may list a class of this name: 1 to 255 bytes of ASCII letters, digits, `_`,
-/// `$` and `/`, with no empty part between slashes or at an end, not in `java/` or `jx/`.
+/// Whether a description may list a class of this name: 1 to 255 bytes of ASCII letters, digits,
+/// `_`, `$` and `/`, with no empty part between slashes or at an end, not in `java/` or `jx/`.
 #[tactic(auto, unfolding(crate::specs::ClassNames::is_class_name))]
 pub fn is_class_name(name: &[u8]) -> bool
     ensures { result ≡ is_class_name name.now }

@@ -15,7 +15,7 @@ pub enum ClassKind {
     Trailing = 10,
 }
 
-/// The first fault of a class file, and the offset in bytes of the place where it is told.
+/// The first fault of a class file, and the offset in bytes of the place where it is found.
 #[derive(Clone, Copy, Debug, PartialEq, Eq)]
 pub struct ClassFault {
     pub at: u32,
@@ -33,8 +33,8 @@ pub enum CodeKind {
     BadRange = 6,
 }
 
-/// The first fault of a method's code, and the place in bytes of the instruction, or the start of the
-/// range, that has it.
+/// The first fault of a method's code, and the place in bytes of the instruction, or the start of
+/// the range, that has it.
 #[derive(Clone, Copy, Debug, PartialEq, Eq)]
 pub struct CodeFault {
     pub pc: u32,

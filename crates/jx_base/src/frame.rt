@@ -115,8 +115,8 @@ impl OperandStack {
     }
 }
 
-/// A running method: its place in `Program::methods`, the place of its instruction in the code, and what
-/// it works on.
+/// A running method: its place in `Program::methods`, the place of its instruction in the code, and
+/// what it works on.
 #[derive(Drop)]
 pub struct Frame {
     pub method: u32,

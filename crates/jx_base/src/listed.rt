@@ -1,10 +1,17 @@
 //! Small types over a `Vec` or a `String` that contracts see as lists.
+ghost use Rattle.std.proofs.Common.{rules};
+ghost use Rattle.std.specs.Cmp;
+ghost use Rattle.std.specs.Cmp.Lexicographic.{nat_list_eq_equiv};
+ghost use Rattle.std.specs.Cmp.Rules.{hashing};
+ghost use Rattle.std.specs.Hash as fed;
 ghost use Rattle.std.specs.Prelude.{◌≡◌, IfOk, string_bytes};
+ghost use Rattle.std.specs.Str.{bytes_eq};
 
 use crate::OutOfMemory;
 use crate::act::Entry;
 use crate::value::{Node, Word};
 use std::alloc::Global;
+use std::hash::{Hash, Hasher};
 use std::marker::Model;
 
 /// A `Vec` that contracts see as the list of its items.
@@ -47,8 +54,50 @@ impl<T> Listed<T> {
     }
 }
 
-/// A text of UTF-16 units. A surrogate may stand alone.
+impl<T: Copy> Listed<T> {
+    /// The list of a slice's items.
+    pub fn from_slice(alloc: Global, items: &[T]) -> Result<Listed<T>, OutOfMemory>
+        ensures { IfOk result (λ list. list ≡ items.now) }
+    {
+        Ok(Listed {
+            items: Vec::from_slice(alloc, items)?,
+        })
+    }
+
+    /// The same list once more.
+    pub fn copy(&self, alloc: Global) -> Result<Listed<T>, OutOfMemory>
+        ensures { IfOk result (λ list. list ≡ self.now) }
+    {
+        Listed::from_slice(alloc, self.items.as_slice())
+    }
+}
+
+/// A text of UTF-16 units, which may be a key of a map. A surrogate may stand alone.
 pub type Text = Listed<u16>;
+
+impl PartialEq for Listed<u16> {
+    ghost eq = { bytes_eq };
+
+    ghost laws = { Cmp.partial_equiv_from_equiv nat_list_eq_equiv };
+
+    fn eq(&self, other: &Listed<u16>) -> bool {
+        self.items.as_slice() == other.items.as_slice()
+    }
+}
+
+impl Eq for Listed<u16> {
+    ghost laws = { nat_list_eq_equiv };
+}
+
+impl Hash for Listed<u16> {
+    ghost hash_input = { fed.slice fed.u16 };
+
+    ghost respects_eq = { Prim.search (hashing, rules) };
+
+    fn hash<H: Hasher>(&self, state: &mut H) {
+        self.items.hash(state);
+    }
+}
 
 /// The text whose units are the bytes of one in ASCII.
 pub fn text_of(alloc: Global, ascii: &str) -> Result<Text, OutOfMemory>

@@ -1,11 +1,15 @@
 //! The plan of a system, and the program that linking makes of its classes.
 
+ghost use Rattle.std.specs.Prelude.{◌≡◌, IfOk};
+
+use crate::OutOfMemory;
 use crate::class_file::{Code, Instr};
 use crate::ids::{ClassId, MethodId};
 use crate::listed::{Listed, Name, Text};
+use std::alloc::Global;
 
-/// A kind of domain. `main` and `classes` are places in `Plan::classes`. The heap is in cells, from 16
-/// to 131,072; the fuel in instructions, up to 100,000,000.
+/// A kind of domain. `main` and `classes` are places in `Plan::classes`. The heap is in cells, from
+/// 16 to 131,072; the fuel in instructions, up to 100,000,000.
 #[derive(Drop)]
 pub struct Template {
     pub name: Text,
@@ -33,12 +37,37 @@ pub struct Selector {
     pub descriptor: Text,
 }
 
+impl Selector {
+    /// The same selector once more.
+    pub fn copy(&self, alloc: Global) -> Result<Selector, OutOfMemory>
+        ensures { IfOk result (λ selector. selector ≡ self.now) }
+    {
+        Ok(Selector {
+            name: self.name.copy(alloc)?,
+            descriptor: self.descriptor.copy(alloc)?,
+        })
+    }
+}
+
 /// A field of a layout, with the class that declares it.
 #[derive(Drop)]
 pub struct Field {
     pub owner: ClassId,
     pub name: Text,
     pub descriptor: Text,
+}
+
+impl Field {
+    /// The same field once more.
+    pub fn copy(&self, alloc: Global) -> Result<Field, OutOfMemory>
+        ensures { IfOk result (λ field. field ≡ self.now) }
+    {
+        Ok(Field {
+            owner: self.owner,
+            name: self.name.copy(alloc)?,
+            descriptor: self.descriptor.copy(alloc)?,
+        })
+    }
 }
 
 /// A method as a class declares it.
@@ -48,8 +77,21 @@ pub struct Declared {
     pub selector: Selector,
 }
 
-/// What a constant means. `Instance` has the place among an object's cells, `Static` the place among
-/// a domain's static fields, each with the declaring class; `Method` has a place in `Program::methods`.
+impl Declared {
+    /// The same method once more.
+    pub fn copy(&self, alloc: Global) -> Result<Declared, OutOfMemory>
+        ensures { IfOk result (λ method. method ≡ self.now) }
+    {
+        Ok(Declared {
+            flags: self.flags,
+            selector: self.selector.copy(alloc)?,
+        })
+    }
+}
+
+/// What a constant means. `Instance` has the place among an object's cells, `Static` the place
+/// among a domain's static fields, each with the declaring class; `Method` has a place in
+/// `Program::methods`.
 #[derive(Drop)]
 pub enum Resolved {
     Unused,
@@ -62,10 +104,10 @@ pub enum Resolved {
     Method(u32),
 }
 
-/// A linked class. `parent` is `None` for java/lang/Object alone; `component` is the descriptor of an
-/// array's element, and `None` for other classes. `fields` is the layout of an instance, the parent's
-/// first; `statics` and `methods` are what the class itself declares, in file order. `constants` goes
-/// by constant index.
+/// A linked class. `parent` is `None` for java/lang/Object alone; `component` is the descriptor of
+/// an array's element, and `None` for other classes. `fields` is the layout of an instance, the
+/// parent's first; `statics` and `methods` are what the class itself declares, in file order.
+/// `constants` goes by constant index.
 #[derive(Drop)]
 pub struct Class {
     pub name: Text,

@@ -92,9 +92,9 @@ pub enum Invocation {
     Interface,
 }
 
-/// A row of the instruction table. `Copy` has the slots that are copied and those above which the copy
-/// comes to lie; `IfSame` and `IfNull` branch where the test gives their bool. `Missing` stands for wide
-/// and for each opcode that is left out or unassigned.
+/// A row of the instruction table. `Copy` has the slots that are copied and those above which the
+/// copy comes to lie; `IfSame` and `IfNull` branch where the test gives their bool. `Missing`
+/// stands for wide and for each opcode that is left out or unassigned.
 #[derive(Clone, Copy)]
 pub enum Row {
     Nop,
@@ -145,8 +145,9 @@ pub enum Row {
     Missing,
 }
 
-/// How the operands lie behind an opcode. `Index` is two unsigned bytes, `ArrayType` the byte of newarray,
-/// `Dimensions` an index and a byte. `WideIncrement` stands behind wide alone, `Wide` is wide itself.
+/// How the operands lie behind an opcode. `Index` is two unsigned bytes, `ArrayType` the byte of
+/// newarray, `Dimensions` an index and a byte. `WideIncrement` stands behind wide alone, `Wide` is
+/// wide itself.
 #[derive(Clone, Copy)]
 pub enum Form {
     Plain,

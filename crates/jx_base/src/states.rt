@@ -51,8 +51,8 @@ pub struct Exported {
     pub iface: ClassId,
 }
 
-/// Why an act may not come now. `Boot` has the place of the template that is created next, `NotFull`
-/// the words of the history.
+/// Why an act may not come now. `Boot` has the place of the template that is created next,
+/// `NotFull` the words of the history.
 #[derive(Clone, Copy)]
 pub enum Why {
     WrongActor,

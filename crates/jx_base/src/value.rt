@@ -3,8 +3,8 @@
 use crate::ids::{ClassId, ObjectId, ServiceId};
 use crate::listed::{Cells, Nodes};
 
-/// A value of a domain's machine. `Ref` is a place in the domain's list of objects; `Portal` has the
-/// interface that its service was exported with.
+/// A value of a domain's machine. `Ref` is a place in the domain's list of objects; `Portal` has
+/// the interface that its service was exported with.
 #[derive(Clone, Copy)]
 pub enum Value {
     Int(i32),
@@ -33,8 +33,8 @@ pub struct Node {
     pub cells: Cells,
 }
 
-/// What a call, an answer or a job carries: values, and copies of the objects that they reach. At most
-/// 1,024 nodes and 4,096 words.
+/// What a call, an answer or a job carries: values, and copies of the objects that they reach. At
+/// most 1,024 nodes and 4,096 words.
 #[derive(Drop)]
 pub struct Parcel {
     pub roots: Cells,

@@ -7,7 +7,7 @@ use Rattle.jx_base.specs.declared.class_file.ClassFile.{ClassFile}
 use Rattle.jx_base.specs.declared.program.Plan.{Plan}
 use Rattle.jx_base.specs.declared.program.Template.{Template}
 use Rattle.link_model.specs.LinkFaults.{next_above, all_above, is_above_itself}
-use Rattle.jx_base.specs.Basics.{firsts_after, firsts, contains_number}
+use Rattle.jx_base.specs.Basics.{firsts_after, firsts, contains_number, distinct, distinct_after}
 use Rattle.jx_base.proofs.BasicLaws.{same_number}
 use Rattle.link_laws.proofs.Lists.{Among, IsOnce, among_front, among_behind, among_either, among_flat, from_flat, at_among, among_any, one_place, position_at, position_there, same_text, same_there, text_itself, number_among, firsts_there}
 
@@ -38,7 +38,7 @@ number_there xs n h = among_any (λ x. x == n) xs n h (same_number n)
 
 -- a number of a list is one of its first numbers, or was seen
 firsts_kept : (xs seen : List ℕ) (x : ℕ) → Among xs x → Among (firsts_after seen xs) x ⊎ Among seen x
-unfolding firsts_after
+unfolding distinct_after contains_number
 firsts_kept [] seen x h = absurd h
 firsts_kept (y ∷ xs) seen x h = by (contains_number seen y) refl h (firsts_kept xs seen x) (firsts_kept xs (y ∷ seen) x)
   where
@@ -52,17 +52,17 @@ firsts_kept (y ∷ xs) seen x h = by (contains_number seen y) refl h (firsts_kep
 
 -- a number of a list is one of its first numbers
 pub first_kept : (xs : List ℕ) (x : ℕ) → Among xs x → Among (firsts xs) x
-unfolding firsts
+unfolding distinct
 first_kept xs x h = elim (firsts_kept xs [] x h) [ inl k ↦ k | inr k ↦ absurd k ]
 
 -- the first numbers of a list are in it
 pub first_there : (xs : List ℕ) (x : ℕ) → Among (firsts xs) x → Among xs x
-unfolding firsts
+unfolding distinct
 first_there xs x h = firsts_there xs [] x h
 
 -- the first numbers of a list stand once, and none was seen
 firsts_apart : (xs seen : List ℕ) → IsOnce (firsts_after seen xs) × ((x : ℕ) → Among (firsts_after seen xs) x → Among seen x → ⊥)
-unfolding firsts_after
+unfolding distinct_after contains_number
 firsts_apart [] seen = (tt, λ x a. absurd a)
 firsts_apart (y ∷ xs) seen = by (contains_number seen y) refl (firsts_apart xs seen) (firsts_apart xs (y ∷ seen))
   where
@@ -79,7 +79,7 @@ firsts_apart (y ∷ xs) seen = by (contains_number seen y) refl (firsts_apart xs
 
 -- so they do in a list of which none was seen
 pub firsts_once : (xs : List ℕ) → IsOnce (firsts xs)
-unfolding firsts
+unfolding distinct
 firsts_once xs = (firsts_apart xs []).0
 
 -- what is found is an item that passes

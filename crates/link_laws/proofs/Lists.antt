@@ -8,7 +8,7 @@ use Rattle.std.proofs.lemmas.Slice.Eq.{bytes_eq-Decides}
 use Rattle.std.proofs.lemmas.List.Quantifiers.{position-Some}
 use Rattle.std.proofs.lemmas.Option.{get_or_from_slice_get}
 use Rattle.std.proofs.Common.{get_or}
-use Rattle.jx_base.specs.Basics.{first_some, contains_number, firsts_after}
+use Rattle.jx_base.specs.Basics.{first_some, contains_number, firsts_after, distinct, distinct_after}
 use Rattle.program_model.specs.Plans.{first_texts_after, first_texts}
 use Rattle.jx_base.proofs.BasicLaws.{eq_of, differs}
 
@@ -297,12 +297,12 @@ pub record AreFirst (seen ts firsts : List (List ℕ)) : Type 0 where
 
 -- so are the first texts of a list
 pub first_texts_are : (seen ts : List (List ℕ)) → AreFirst seen ts (first_texts_after seen ts)
-unfolding first_texts_after
+unfolding distinct_after
 first_texts_are seen [] = record { once = tt; there = λ t h. h; unseen = λ t h k. h; all = λ t h. absurd h }
 first_texts_are seen (x ∷ ts) = by (list_any (bytes_eq x) seen) refl (first_texts_are seen ts) (first_texts_are (x ∷ seen) ts)
   where
     by : (b : Bool) → list_any (bytes_eq x) seen ≡ b → AreFirst seen ts (first_texts_after seen ts) → AreFirst (x ∷ seen) ts (first_texts_after (x ∷ seen) ts)
-        → AreFirst seen (x ∷ ts) (elim b as (λ _. List (List ℕ)) [ true ↦ first_texts_after seen ts | false ↦ x ∷ first_texts_after (x ∷ seen) ts ])
+        → AreFirst seen (x ∷ ts) (if b then first_texts_after seen ts else (x ∷ first_texts_after (x ∷ seen) ts))
     by true e r s =
         let k = any_among (bytes_eq x) seen e in
         let old : Among seen x = subst (Among seen) (sym (same_text x k.0 k.2)) k.1 in
@@ -324,29 +324,29 @@ first_texts_are seen (x ∷ ts) = by (list_any (bytes_eq x) seen) refl (first_te
 
 -- a list that is its first texts has no repeats
 pub texts_once : (ts : List (List ℕ)) → first_texts ts ≡ ts → IsOnce ts
-unfolding first_texts
+unfolding distinct
 texts_once ts e = subst IsOnce e (first_texts_are [] ts).once
 
 -- the first texts of a list are its texts
 pub text_there : (ts : List (List ℕ)) (t : List ℕ) → Among (first_texts ts) t → Among ts t
-unfolding first_texts
+unfolding distinct
 text_there ts t h = (first_texts_are [] ts).there t h
 
 -- the texts of a list are among its first texts
 pub text_kept : (ts : List (List ℕ)) (t : List ℕ) → Among ts t → Among (first_texts ts) t
-unfolding first_texts
+unfolding distinct
 text_kept ts t h = elim ((first_texts_are [] ts).all t h) [ inl k ↦ k | inr k ↦ absurd k ]
 
 -- and each stands there once
 pub first_once : (ts : List (List ℕ)) → IsOnce (first_texts ts)
-unfolding first_texts
+unfolding distinct
 first_once ts = (first_texts_are [] ts).once
 
 -- ---- numbers
 
 -- the first numbers of a list are numbers of it
 pub firsts_there : (xs seen : List ℕ) (x : ℕ) → Among (firsts_after seen xs) x → Among xs x
-unfolding firsts_after
+unfolding distinct_after contains_number
 firsts_there [] seen x h = h
 firsts_there (y ∷ xs) seen x h = by (contains_number seen y) h (firsts_there xs seen x) (firsts_there xs (y ∷ seen) x)
   where

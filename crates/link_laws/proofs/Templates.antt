@@ -1,5 +1,5 @@
 -- What the walks of linking find: each class of the plan stands in a template's list, and has no fault there.
-use Rattle.std.proofs.Common.{◌≡◌, ℕ, ◌<◌, inl, inr, Bool, true, false, not, List, [], length, map, Option, Some, None, slice_get, refl, sym, ◌∙◌, subst, arith}
+use Rattle.std.proofs.Common.{◌≡◌, ℕ, ◌<◌, inl, inr, Bool, true, false, not, List, [], ◌∷◌, length, map, Option, Some, None, slice_get, refl, sym, ◌∙◌, subst, arith}
 use Rattle.std.proofs.lemmas.List.{length-map}
 use Rattle.std.specs.Prelude.{flat_map}
 use Rattle.std.specs.List.{filter_map, find}
@@ -8,7 +8,7 @@ use Rattle.jx_base.specs.declared.class_file.ClassFile.{ClassFile}
 use Rattle.jx_base.specs.declared.program.Plan.{Plan}
 use Rattle.jx_base.specs.declared.program.System.{System}
 use Rattle.jx_base.specs.declared.program.Template.{Template}
-use Rattle.jx_base.specs.Basics.{firsts}
+use Rattle.jx_base.specs.Basics.{firsts, distinct}
 use Rattle.link_model.specs.ClassFiles.{this_name, super_name, interface_names}
 use Rattle.link_model.specs.Linking.{outline}
 use Rattle.link_model.specs.LinkFaults.{LinkFault, LinkKind, NoClass, SuperLoop, Twice, WrongName, fault_if, first_fault, named_fault, listed_name, listing_at, Listing, may_extend, may_implement, is_above_itself, repeated_name, class_fault, main_fault, uses_fault, template_fault, first_link_fault, IsLinked}
@@ -20,7 +20,10 @@ use Rattle.std.specs.Option.{option_and_then, option_map}
 -- where there is no first fault, none of the list is one
 pub no_fault_of : (faults : List (Option LinkFault)) (fault : Option LinkFault) → first_fault faults ≡ None → Among faults fault → fault ≡ None
 unfolding first_fault
-no_fault_of faults fault h k = none_given (λ x. x) faults fault h k
+no_fault_of [] fault h k = absurd k
+no_fault_of (None ∷ faults) fault h (inl e) = sym e
+no_fault_of (None ∷ faults) fault h (inr k) = no_fault_of faults fault h k
+no_fault_of (Some f ∷ faults) fault h k = absurd cc
 
 -- without a fault the test fails
 pub test_fails : (test : Bool) (class : List ℕ) (kind : LinkKind) (name : List ℕ) → fault_if test class kind name ≡ None → test ≡ false
@@ -87,7 +90,7 @@ listing_there plan files t p name f h = among_given (listing_at plan files) t.cl
 module _ (plan : Plan) (files : List ClassFile) (s : System) (linked : IsLinked plan files s) where
   -- each place of the plan stands in a template's list
   pub template_of : (p : ℕ) → p < length plan.classes → (t : Template) × Among plan.templates t × Among t.classes p
-  unfolding firsts
+  unfolding distinct
   template_of p h =
       let places : List ℕ = flat_map (λ t. t.classes) plan.templates in
       from_flat (λ t. t.classes) plan.templates p

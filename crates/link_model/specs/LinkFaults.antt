@@ -17,6 +17,7 @@ use Rattle.jx_base.specs.declared.program.Template.{Template}
 use Rattle.jx_base.specs.declared.row.Invocation.{Invocation}
 use Rattle.jx_base.specs.declared.row.Invocation.TheVariants as invocation
 use Rattle.jx_base.specs.Basics.{first_some, passes, contains_number, firsts}
+unfoldable pub use Rattle.jx_base.specs.Basics.{first_fault, has_text}
 use Rattle.program_model.specs.Types.{innermost_type, is_number_type}
 use Rattle.program_model.specs.BuiltIn.{built_in_table, throwable_classes, string_class, zero_class, memory_class}
 use Rattle.class_grammar.specs.Flags.{is_static, is_abstract, is_interface_flag}
@@ -39,14 +40,6 @@ pub record LinkFault : Type 0 where
 -- a fault where a test passes
 unfoldable pub fault_if : Bool → List ℕ → LinkKind → List ℕ → Option LinkFault
 fault_if test class kind name = if test then Some (record { class = class; kind = kind; name = name }) else None
-
--- the first fault that there is
-unfoldable pub first_fault : List (Option LinkFault) → Option LinkFault
-first_fault faults = first_some (λ x. x) faults
-
--- whether a text is among these
-unfoldable pub has_text : List (List ℕ) → List ℕ → Bool
-has_text names name = list_any (bytes_eq name) names
 
 -- ---- the classes of a template
 
@@ -291,5 +284,5 @@ pub record IsLinkFault (plan : Plan) (files : List ClassFile) (fault : LinkFault
 
 -- what a computed case opens
 unfoldable pub opened_link_faults : Unit {0}
-unfolding fault_if first_fault has_text listed_name listed_names listed_place is_object_name may_extend may_implement next_above all_above is_above_itself repeated_after repeated_name named_fault class_fault is_main main_fault has_tag_for dimensions_of has_shape_for is_known_plain is_known_type is_known is_field_for calls_static is_method_for has_member missing_kind is_not_made is_abstract_method needs_abstract abstract_name member_fault use_fault uses_fault listing_at template_fault first_link_fault
+unfolding fault_if listed_name listed_names listed_place is_object_name may_extend may_implement next_above all_above is_above_itself repeated_after repeated_name named_fault class_fault is_main main_fault has_tag_for dimensions_of has_shape_for is_known_plain is_known_type is_known is_field_for calls_static is_method_for has_member missing_kind is_not_made is_abstract_method needs_abstract abstract_name member_fault use_fault uses_fault listing_at template_fault first_link_fault
 opened_link_faults = tt

@@ -11,7 +11,7 @@ use Rattle.jx_base.specs.declared.value.Value.{Value}
 use Rattle.jx_base.specs.declared.value.Value.TheVariants as value
 use Rattle.jx_base.specs.declared.value.Word.{Word}
 use Rattle.jx_base.specs.declared.value.Word.TheVariants as word
-use Rattle.jx_base.specs.Basics.{contains_number, firsts, firsts_after}
+use Rattle.jx_base.specs.Basics.{contains_number, firsts, firsts_after, distinct, distinct_after}
 use Rattle.jx_base.specs.Histories.{Past}
 use Rattle.program_model.specs.Limits.{node_limit, parcel_limit}
 use Rattle.program_model.specs.ParcelParts.{parcel_cells, parcel_words}
@@ -29,7 +29,7 @@ use Rattle.std.specs.Option.{option_map, unwrap_or}
 
 -- what a list has, its first mentions have, or it was seen
 kept : (seen xs : List ℕ) (x : ℕ) → Has xs x → Has (firsts_after seen xs) x ⊎ Has seen x
-unfolding firsts_after
+unfolding distinct_after contains_number
 kept seen [] x h = has_none x h
 kept seen (y ∷ xs) x h = by (contains_number seen y) refl (has_cases y xs x h) (kept seen xs x) (kept (y ∷ seen) xs x)
   where
@@ -48,11 +48,11 @@ kept seen (y ∷ xs) x h = by (contains_number seen y) refl (has_cases y xs x h)
     by false s (inr t) p r = after (r t)
 
 in_firsts : (xs : List ℕ) (x : ℕ) → Has xs x → Has (firsts xs) x
-unfolding firsts
+unfolding distinct
 in_firsts xs x h = elim (kept [] xs x h) [ inl a ↦ a | inr b ↦ has_none x b ]
 
 of_firsts : (xs : List ℕ) (x : ℕ) → Has (firsts xs) x → Has xs x
-unfolding firsts
+unfolding distinct
 of_firsts xs x h = has_first [] xs x h
 
 -- each item of a list is in it

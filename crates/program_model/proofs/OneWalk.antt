@@ -3,13 +3,13 @@ use Rattle.std.proofs.Common.{◌≡◌, refl, sym, ◌∙◌, ap, subst, ℕ, s
 use Rattle.std.specs.Prelude.{nat_lt}
 use Rattle.std.proofs.lemmas.Option.{slice_get_past}
 use Rattle.jx_base.specs.declared.states.Exported.{Exported}
-use Rattle.jx_base.specs.Basics.{contains_number, firsts, firsts_after}
+use Rattle.jx_base.specs.Basics.{contains_number, firsts, firsts_after, distinct, distinct_after}
 use Rattle.program_model.specs.Parcels.{HeapObject, IsWalk, IsOnlyWalk, walk_of}
 use Rattle.program_model.proofs.WalkRounds.{rounds_walk, Has, has_head, has_tail, has_cases, has_none, has_at, get_left, Begins, firsts_begin, mentions, mentions_begin, below, above}
 
 -- what a list has, its first mentions have, or it was seen
 kept : (seen xs : List ℕ) (x : ℕ) → Has xs x → Has (firsts_after seen xs) x ⊎ Has seen x
-unfolding firsts_after
+unfolding distinct_after contains_number
 kept seen [] x h = has_none x h
 kept seen (y ∷ xs) x h = by (contains_number seen y) refl (has_cases y xs x h) (kept seen xs x) (kept (y ∷ seen) xs x)
   where
@@ -28,12 +28,12 @@ kept seen (y ∷ xs) x h = by (contains_number seen y) refl (has_cases y xs x h)
     by false s (inr t) p r = after (r t)
 
 in_firsts : (xs : List ℕ) (x : ℕ) → Has xs x → Has (firsts xs) x
-unfolding firsts
+unfolding distinct
 in_firsts xs x h = elim (kept [] xs x h) [ inl a ↦ a | inr b ↦ has_none x b ]
 
 -- no first mention was seen before
 unseen : (seen xs : List ℕ) (x : ℕ) → Has (firsts_after seen xs) x → contains_number seen x ≡ false
-unfolding firsts_after
+unfolding distinct_after contains_number
 unseen seen [] x h = has_none x h
 unseen seen (y ∷ xs) x h = by (contains_number seen y) refl h (unseen seen xs x) (unseen (y ∷ seen) xs x)
   where
@@ -50,10 +50,10 @@ unseen seen (y ∷ xs) x h = by (contains_number seen y) refl h (unseen seen xs 
     ]
 
 -- no first mention stands twice
-distinct : (seen xs : List ℕ) (i j x : ℕ) → slice_get (firsts_after seen xs) i ≡ Some x → slice_get (firsts_after seen xs) j ≡ Some x → i ≡ j
-unfolding firsts_after
-distinct seen [] i j x h k = cc
-distinct seen (y ∷ xs) i j x h k = by (contains_number seen y) i j h k (distinct seen xs) (distinct (y ∷ seen) xs)
+one_place : (seen xs : List ℕ) (i j x : ℕ) → slice_get (firsts_after seen xs) i ≡ Some x → slice_get (firsts_after seen xs) j ≡ Some x → i ≡ j
+unfolding distinct_after contains_number
+one_place seen [] i j x h k = cc
+one_place seen (y ∷ xs) i j x h k = by (contains_number seen y) i j h k (one_place seen xs) (one_place (y ∷ seen) xs)
   where
     again : {A : Type 0} (i : ℕ) → slice_get (firsts_after (y ∷ seen) xs) i ≡ Some x → y ≡ x → A
     again i h q =
@@ -102,7 +102,7 @@ take_whole (x ∷ xs) (suc k) l = ap (λ (ys : List ℕ). x ∷ ys) (take_whole 
 module _ (objects : List HeapObject) (exports : List Exported) (roots : List ℕ) where
   -- a walk's member is told by those before it
   next_member : (walk : List ℕ) → IsWalk objects exports roots walk → (k : ℕ) → slice_get walk k ≡ slice_get (firsts (mentions objects exports roots (take k walk))) k
-  unfolding firsts
+  unfolding distinct
   next_member walk w k = by (nat_lt k (length (firsts (mentions objects exports roots (take k walk))))) refl
     where
       found : List ℕ
@@ -119,7 +119,7 @@ module _ (objects : List HeapObject) (exports : List Exported) (roots : List ℕ
       none (Some r) q l =
           let m = at_has (firsts (mentions objects exports roots (take k walk))) r (in_firsts (mentions objects exports roots (take k walk)) r (w.reached k r q)) in
           let first : slice_get walk m.0 ≡ Some r = same m.0 m.2 ∙ m.1 in
-          let e : m.0 ≡ k = distinct [] (mentions objects exports roots walk) m.0 k r
+          let e : m.0 ≡ k = one_place [] (mentions objects exports roots walk) m.0 k r
           (ap (λ (xs : List ℕ). slice_get xs m.0) (sym w.closed) ∙ first) (ap (λ (xs : List ℕ). slice_get xs k) (sym w.closed) ∙ q) in
           absurd (omega (arith, l, m.2, e))
 

@@ -9,7 +9,7 @@ use Rattle.std.proofs.Math.Seq.{take-append-add}
 use Rattle.std.proofs.lemmas.Bool.Decides.{nat_tests}
 use Rattle.jx_base.specs.declared.states.Exported.{Exported}
 use Rattle.jx_base.specs.declared.value.Value.{Value}
-use Rattle.jx_base.specs.Basics.{contains_number, firsts, firsts_after}
+use Rattle.jx_base.specs.Basics.{contains_number, firsts, firsts_after, distinct, distinct_after}
 use Rattle.program_model.specs.Parcels.{HeapObject, IsWalk, walk_of, walk_rounds, object_references, references_of, reference_of, cells_at}
 use Rattle.jx_base.proofs.BasicLaws.{eq_of, differs, same_number}
 
@@ -79,7 +79,7 @@ seen_after seen [] = seen
 seen_after seen (x ∷ xs) = if contains_number seen x then seen_after seen xs else seen_after (x ∷ seen) xs
 
 firsts_append : (seen a b : List ℕ) → firsts_after seen (a ++ b) ≡ firsts_after seen a ++ firsts_after (seen_after seen a) b
-unfolding firsts_after seen_after
+unfolding distinct_after contains_number seen_after
 firsts_append seen [] b = refl
 firsts_append seen (x ∷ a) b = by (contains_number seen x) (firsts_append seen a b) (firsts_append (x ∷ seen) a b)
   where
@@ -113,7 +113,7 @@ all_seen seen (y ∷ a) x h = by (contains_number seen y) refl (has_cases y a x 
     by false s (inr t) p r = r t
 
 nothing_new : (seen b : List ℕ) → ((x : ℕ) → Has b x → Has seen x) → firsts_after seen b ≡ []
-unfolding firsts_after
+unfolding distinct_after contains_number
 nothing_new seen [] h = refl
 nothing_new seen (x ∷ b) h =
     ap (λ (c : Bool). if c then firsts_after seen b else x ∷ firsts_after (x ∷ seen) b) (h x (has_head x b))
@@ -125,11 +125,11 @@ abbrev pub Begins : List ℕ → List ℕ → Type 0
 Begins a b = (c : List ℕ) × (b ≡ a ++ c)
 
 pub firsts_begin : (a b : List ℕ) → Begins a b → Begins (firsts a) (firsts b)
-unfolding firsts
+unfolding distinct
 firsts_begin a b p = (firsts_after (seen_after [] a) p.0, ap (firsts_after []) p.1 ∙ firsts_append [] a p.0)
 
 pub has_first : (seen xs : List ℕ) (x : ℕ) → Has (firsts_after seen xs) x → Has xs x
-unfolding firsts_after
+unfolding distinct_after contains_number
 has_first seen [] x h = h
 has_first seen (y ∷ xs) x h = by (contains_number seen y) h (has_first seen xs x) (has_first (y ∷ seen) xs x)
   where
@@ -247,7 +247,7 @@ module _ (objects : List HeapObject) (exports : List Exported) (roots : List ℕ
   Settled k = (i : ℕ) → i < length objects → Has (round (suc k)) i → Has (round k) i
 
   settles : (k : ℕ) → Settled k → round (suc (suc k)) ≡ round (suc k)
-  unfolding walk_rounds firsts
+  unfolding walk_rounds distinct
   settles k s =
       let c = rounds_begin k in
       ap (λ (xs : List ℕ). firsts (mentions xs)) c.1
@@ -331,7 +331,7 @@ module _ (objects : List HeapObject) (exports : List Exported) (roots : List ℕ
       )
 
   reached : (m k r : ℕ) → slice_get (round m) k ≡ Some r → Has (mentions (take k (round m))) r
-  unfolding walk_rounds firsts
+  unfolding walk_rounds distinct
   reached zero k r h = cc
   reached (suc m) k r h = by (nat_lt k (length (round m))) refl (reached m k r)
     where

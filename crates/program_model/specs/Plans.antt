@@ -5,21 +5,17 @@ use Rattle.std.specs.Str.{bytes_eq}
 use Rattle.jx_base.specs.ClassNames.{is_name_byte, has_filled_parts, is_reserved, is_class_name}
 use Rattle.jx_base.specs.declared.program.Plan.{Plan}
 use Rattle.jx_base.specs.declared.program.Template.{Template}
-use Rattle.jx_base.specs.Basics.{firsts}
+use Rattle.jx_base.specs.Basics.{distinct_after, distinct, firsts}
 
 -- ---- texts
 
--- the texts without later repeats of those that were seen
-unfoldable pub first_texts_after : List (List ℕ) → List (List ℕ) → List (List ℕ)
-first_texts_after seen [] = []
-first_texts_after seen (t ∷ ts) = elim (list_any (bytes_eq t) seen) [
-  | true ↦ first_texts_after seen ts
-  | false ↦ t ∷ first_texts_after (t ∷ seen) ts
-]
+-- the texts without later repeats, and without those that were seen before
+abbrev pub first_texts_after : List (List ℕ) → List (List ℕ) → List (List ℕ)
+first_texts_after seen texts = distinct_after bytes_eq seen texts
 
 -- the texts without later repeats
-unfoldable pub first_texts : List (List ℕ) → List (List ℕ)
-first_texts ts = first_texts_after [] ts
+abbrev pub first_texts : List (List ℕ) → List (List ℕ)
+first_texts texts = distinct bytes_eq texts
 
 -- 1 to 255 units
 unfoldable pub has_name_length : List ℕ → Bool
@@ -59,5 +55,5 @@ pub record IsPlanInRange (plan : Plan) : Type 0 where
 
 -- what a computed case opens
 unfoldable pub opened_plans : Unit {0}
-unfolding first_texts_after first_texts has_name_length is_template_name is_name_byte has_filled_parts is_reserved is_class_name
+unfolding distinct_after distinct has_name_length is_template_name is_name_byte has_filled_parts is_reserved is_class_name
 opened_plans = tt

@@ -5,7 +5,8 @@ use Rattle.std.specs.List.{position_or_len}
 use Rattle.std.specs.Str.{bytes_eq}
 use Rattle.std.proofs.lemmas.Bool.Decides.{nat_tests}
 use Rattle.toml.specs.Data.{Members}
-use Rattle.system_text.specs.Keys.{distinct, distinct_after}
+use Rattle.program_model.specs.Plans.{first_texts, first_texts_after}
+use Rattle.jx_base.specs.Basics.{distinct, distinct_after, has_text}
 use Rattle.system_text.specs.Description.{plan_fault, described_plan, described_template, class_names, domains_in, classes_in, place_in, number_in, text_in}
 use Rattle.system_text.specs.Scan.{capped, capped_plan, capped_template, names_of_all}
 use Rattle.system_text.proofs.Distinct.{with_all_new-distinct}
@@ -50,7 +51,7 @@ pub record TopFits (top : Members) : Type 0 where
   pub total : length (class_names top) ≤ 256
 
 pub top_fits : (top : Members) → plan_fault top ≡ None → TopFits top
-unfolding plan_fault class_names distinct distinct_after
+unfolding plan_fault class_names distinct distinct_after has_text
 top_fits top e =
     let (granules, e1) = first_none _ _ e in
     let (journal, e2) = first_none _ _ e1 in

@@ -8,26 +8,28 @@ use Rattle.std.proofs.lemmas.List.{append-nil}
 use Rattle.std.proofs.lemmas.List.Folds.{list_any-append}
 use Rattle.toml.specs.View.{table_view}
 use Rattle.toml.specs.declared.value.Value.{Value}
-use Rattle.system_text.specs.Keys.{has_text, distinct, distinct_after}
+use Rattle.program_model.specs.Plans.{first_texts, first_texts_after}
+use Rattle.jx_base.specs.Basics.{added, all_added, distinct, distinct_after}
+use Rattle.system_text.specs.Keys.{has_text}
 use Rattle.system_text.specs.Description.{classes_in}
 use Rattle.system_text.specs.Scan.{tables_at, with_new, with_all_new}
 use Rattle.system_text.proofs.Chains.{Tables, tables_step}
 
 pub with_known : (texts : List (List ℕ)) (text : List ℕ) → has_text texts text ≡ true → with_new texts text ≡ texts
-unfolding with_new
+unfolding added has_text
 with_known texts text e = rw e refl
 
 pub with_unknown : (texts : List (List ℕ)) (text : List ℕ) → has_text texts text ≡ false → with_new texts text ≡ texts ++ text ∷ []
-unfolding with_new
+unfolding added has_text
 with_unknown texts text e = rw e refl
 
-pub distinct_known : (seen : List (List ℕ)) (text : List ℕ) (texts : List (List ℕ)) → has_text seen text ≡ true → distinct_after seen (text ∷ texts) ≡ distinct_after seen texts
-unfolding distinct_after
+pub distinct_known : (seen : List (List ℕ)) (text : List ℕ) (texts : List (List ℕ)) → has_text seen text ≡ true → first_texts_after seen (text ∷ texts) ≡ first_texts_after seen texts
+unfolding distinct_after has_text
 distinct_known seen text texts e = rw e refl
 
 pub distinct_unknown : (seen : List (List ℕ)) (text : List ℕ) (texts : List (List ℕ)) → has_text seen text ≡ false
-    → distinct_after seen (text ∷ texts) ≡ text ∷ distinct_after (text ∷ seen) texts
-unfolding distinct_after
+    → first_texts_after seen (text ∷ texts) ≡ text ∷ first_texts_after (text ∷ seen) texts
+unfolding distinct_after has_text
 distinct_unknown seen text texts e = rw e refl
 
 -- the same texts are in both lists
@@ -46,8 +48,8 @@ same_more xs ys text same t =
     list_any-append (bytes_eq t) xs (text ∷ [])
     ∙ (or_last (list_any (bytes_eq t) xs) (bytes_eq t text) ∙ ap (λ b. bytes_eq t text || b) (same t))
 
-with_all_new-after : (texts seen others : List (List ℕ)) → HasSame texts seen → with_all_new texts others ≡ texts ++ distinct_after seen others
-unfolding with_all_new distinct_after
+with_all_new-after : (texts seen others : List (List ℕ)) → HasSame texts seen → with_all_new texts others ≡ texts ++ first_texts_after seen others
+unfolding all_added distinct_after has_text
 with_all_new-after texts seen [] same = sym (append-nil texts)
 with_all_new-after texts seen (text ∷ others) same =
     elim (cases_Bool (has_text texts text)) [
@@ -56,20 +58,20 @@ with_all_new-after texts seen (text ∷ others) same =
       | inr other ↦
           rw (with_unknown texts text other)
           (with_all_new-after (texts ++ text ∷ []) (text ∷ seen) others (same_more texts seen text same)
-          ∙ (append_assoc texts (text ∷ []) (distinct_after (text ∷ seen) others)
+          ∙ (append_assoc texts (text ∷ []) (first_texts_after (text ∷ seen) others)
           ∙ ap (λ xs. texts ++ xs) (sym (distinct_unknown seen text others (sym (same text) ∙ other)))))
     ]
 
-pub with_all_new-distinct : (texts : List (List ℕ)) → with_all_new [] texts ≡ distinct texts
+pub with_all_new-distinct : (texts : List (List ℕ)) → with_all_new [] texts ≡ first_texts texts
 unfolding distinct
 with_all_new-distinct texts = with_all_new-after [] [] texts (λ t. refl)
 
 pub with_all_new-append : (texts xs ys : List (List ℕ)) → with_all_new texts (xs ++ ys) ≡ with_all_new (with_all_new texts xs) ys
-unfolding with_all_new
+unfolding all_added
 with_all_new-append texts [] ys = refl
 with_all_new-append texts (x ∷ xs) ys = with_all_new-append (with_new texts x) xs ys
 
-pub distinct-append : (xs ys : List (List ℕ)) → with_all_new (distinct xs) ys ≡ distinct (xs ++ ys)
+pub distinct-append : (xs ys : List (List ℕ)) → with_all_new (first_texts xs) ys ≡ first_texts (xs ++ ys)
 distinct-append xs ys =
     ap (λ ts. with_all_new ts ys) (sym (with_all_new-distinct xs)) ∙ (sym (with_all_new-append [] xs ys) ∙ with_all_new-distinct (xs ++ ys))
 

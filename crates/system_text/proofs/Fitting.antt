@@ -8,9 +8,10 @@ use Rattle.std.proofs.lemmas.List.{append-nil}
 use Rattle.std.proofs.lemmas.Grind.{flat_map-append}
 use Rattle.jx_base.specs.ClassNames.{is_class_name}
 use Rattle.toml.specs.Data.{Data, string, integer, float, boolean, datetime, array, table, Members, as_str, as_integer, get_member}
+use Rattle.program_model.specs.Plans.{first_texts}
 use Rattle.system_text.specs.declared.fault.PlanFault.{PlanFault}
 use Rattle.system_text.specs.declared.fault.PlanFault.TheVariants as fault
-use Rattle.system_text.specs.Keys.{first_fault, fault_if, items_in, array_items, is_between, is_domain_name, has_text, are_classes, classes_fault, first_repeated, twice_fault, distinct, domain_key, required_fault, optional_fault, number_fault, name_fault, main_fault}
+use Rattle.system_text.specs.Keys.{first_fault, fault_if, items_in, array_items, is_between, is_domain_name, has_text, are_classes, classes_fault, first_repeated, twice_fault, domain_key, required_fault, optional_fault, number_fault, name_fault, main_fault}
 use Rattle.system_text.specs.Description.{classes_in, text_in, number_in, domain_fault, domains_fault}
 
 pub first_none : (o : Option PlanFault) (os : List (Option PlanFault)) → first_fault (o ∷ os) ≡ None → (o ≡ None) × (first_fault os ≡ None)
@@ -140,7 +141,7 @@ pub record ClassesFit (before names : List (List ℕ)) : Type 0 where
   pub some : 1 ≤ length names
   pub few : length names ≤ 256
   pub named : list_all is_class_name names ≡ true
-  pub total : length (distinct (before ++ names)) ≤ 256
+  pub total : length (first_texts (before ++ names)) ≤ 256
   pub once : first_repeated names ≡ None
 
 none_twice : (o : Option (List ℕ)) → twice_fault o ≡ None → o ≡ None
@@ -154,7 +155,7 @@ classes_pass key before (array ds) e =
     let names : List (List ℕ) = filter_map as_str (items_in ds) in
     let (kind, rest) = first_none _ _ e in
     let (range, last) = first_none _ _ rest in
-    let (front, total) = and_parts _ (nat_le (length (distinct (before ++ names))) 256) (passes (are_classes before names) (fault.Range key) range) in
+    let (front, total) = and_parts _ (nat_le (length (first_texts (before ++ names))) 256) (passes (are_classes before names) (fault.Range key) range) in
     let (counts, named) = and_parts (nat_le 1 (length names) && nat_le (length names) 256) (list_all is_class_name names) front in
     let (some, few) = and_parts (nat_le 1 (length names)) (nat_le (length names) 256) counts in
     record {
@@ -217,10 +218,10 @@ domains_fit i before (ms ∷ domains) e =
     (domain_fits i before ms here, domains_fit (suc i) (before ++ ms ∷ []) domains (first_none _ _ rest).0)
 
 -- the number of different classes
-pub total_fits : (before domains : List Members) → DomainsFit before domains → length (distinct (flat_map classes_in before)) ≤ 256
-    → length (distinct (flat_map classes_in (before ++ domains))) ≤ 256
+pub total_fits : (before domains : List Members) → DomainsFit before domains → length (first_texts (flat_map classes_in before)) ≤ 256
+    → length (first_texts (flat_map classes_in (before ++ domains))) ≤ 256
 total_fits before [] fit few = rw (append-nil before) few
 total_fits before (ms ∷ domains) fit few =
     let joined = flat_map-append classes_in before (ms ∷ []) ∙ ap (λ xs. flat_map classes_in before ++ xs) (append-nil (classes_in ms)) in
-    let here : length (distinct (flat_map classes_in (before ++ ms ∷ []))) ≤ 256 = rw joined fit.0.classes.total in
+    let here : length (first_texts (flat_map classes_in (before ++ ms ∷ []))) ≤ 256 = rw joined fit.0.classes.total in
     rw (← append_assoc before (ms ∷ []) domains) (total_fits (before ++ ms ∷ []) domains fit.1 here)

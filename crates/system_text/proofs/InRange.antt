@@ -10,11 +10,11 @@ use Rattle.std.proofs.lemmas.List.Folds.{list_all-append}
 use Rattle.std.proofs.lemmas.List.Sums.{AllPass-from_list_all}
 use Rattle.jx_base.specs.ClassNames.{is_class_name}
 use Rattle.jx_base.specs.declared.program.Plan.{Plan}
-use Rattle.jx_base.specs.Basics.{firsts}
+use Rattle.jx_base.specs.Basics.{firsts, distinct}
 use Rattle.program_model.specs.Plans.{first_texts, has_name_length, is_template_name, IsTemplateInRange, IsPlanInRange}
 use Rattle.toml.specs.Data.{Data, string, integer, float, boolean, datetime, array, table, Members, as_table, get_member}
 use Rattle.system_text.specs.declared.fault.PlanFault.TheVariants as fault
-use Rattle.system_text.specs.Keys.{array_items, distinct, first_repeated, has_text, is_domain_name, items_in, optional_fault}
+use Rattle.system_text.specs.Keys.{array_items, first_repeated, has_text, is_domain_name, items_in, optional_fault}
 use Rattle.system_text.specs.Description.{class_names, classes_in, described_plan, described_template, domain_array_fault, domains_in, place_in, plan_fault, text_in, Describes}
 use Rattle.system_text.proofs.Capped.{top_fits}
 use Rattle.system_text.proofs.Distinct.{with_all_new-distinct}
@@ -23,7 +23,7 @@ use Rattle.system_text.proofs.Places.{all_pass, all_taken, and_true, AreAmong, A
 use Rattle.system_text.proofs.Scanned.{names_of, names_more}
 
 once_in_order : (names texts : List (List ℕ)) → AreAmong names texts → first_repeated texts ≡ None → firsts (map (place_in names) texts) ≡ map (place_in names) texts
-unfolding firsts first_repeated
+unfolding distinct first_repeated
 once_in_order names texts among once = firsts_of_places names [] texts refl among ∙ ap (map (place_in names)) (distinct_of_once [] texts once)
 
 template_in_range : (names : List (List ℕ)) (before : List Members) (ms : Members) → AreAmong names (classes_in ms) → DomainFits before ms
@@ -124,14 +124,14 @@ unfolding class_names distinct
 classes_new top = distinct_are_new [] [] (flat_map classes_in (domains_in top)) (λ t. refl)
 
 in_order : (top : Members) → firsts (flat_map (λ t. t.classes) (map (described_template (class_names top)) (domains_in top))) ≡ range_with_len 0 (length (class_names top))
-unfolding firsts class_names distinct
+unfolding distinct class_names
 in_order top =
     ap firsts (template_classes (class_names top) (domains_in top))
     ∙ (firsts_of_places (class_names top) [] (flat_map classes_in (domains_in top)) refl (among_all top)
     ∙ places_in_turn [] (class_names top) (classes_new top))
 
 top_in_range : (top : Members) → plan_fault top ≡ None → IsPlanInRange (described_plan top)
-unfolding described_plan first_texts
+unfolding described_plan distinct
 top_in_range top accepted =
     let fits = top_fits top accepted in
     let tables = domains_in top in

@@ -9,9 +9,9 @@ use Rattle.std.proofs.lemmas.Slice.Eq.{bytes_eq-Decides}
 use Rattle.std.proofs.lemmas.List.{length_push}
 use Rattle.std.proofs.lemmas.List.Elements.{All-nil, All-cons}
 use Rattle.std.proofs.lemmas.List.Folds.{list_any-append, list_all-append}
-use Rattle.jx_base.specs.Basics.{contains_number, firsts_after}
+use Rattle.jx_base.specs.Basics.{contains_number, firsts_after, all_added, distinct_after}
 use Rattle.program_model.specs.Plans.{first_texts_after}
-use Rattle.system_text.specs.Keys.{has_text, distinct_after, repeated_after}
+use Rattle.system_text.specs.Keys.{has_text, repeated_after}
 use Rattle.system_text.specs.Description.{place_in}
 use Rattle.system_text.specs.Scan.{with_new, with_all_new}
 use Rattle.system_text.proofs.Distinct.{HasSame, distinct_known, distinct_unknown, same_more, with_known, with_unknown}
@@ -87,16 +87,16 @@ contains_test names (s ∷ seen) text among there =
     ∙ ap (λ b. bytes_eq text s || b) (contains_test names seen text more there)
 
 firsts_known : (seen : List ℕ) (n : ℕ) (ns : List ℕ) → contains_number seen n ≡ true → firsts_after seen (n ∷ ns) ≡ firsts_after seen ns
-unfolding firsts_after
+unfolding distinct_after contains_number
 firsts_known seen n ns e = rw e refl
 
 firsts_new : (seen : List ℕ) (n : ℕ) (ns : List ℕ) → contains_number seen n ≡ false → firsts_after seen (n ∷ ns) ≡ n ∷ firsts_after (n ∷ seen) ns
-unfolding firsts_after
+unfolding distinct_after contains_number
 firsts_new seen n ns e = rw e refl
 
 pub firsts_of_places : (names seen texts : List (List ℕ)) → AreAmong names seen → AreAmong names texts
-    → firsts_after (map (place_in names) seen) (map (place_in names) texts) ≡ map (place_in names) (distinct_after seen texts)
-unfolding firsts_after distinct_after
+    → firsts_after (map (place_in names) seen) (map (place_in names) texts) ≡ map (place_in names) (first_texts_after seen texts)
+unfolding distinct_after contains_number has_text
 firsts_of_places names seen [] among all = refl
 firsts_of_places names seen (t ∷ texts) among all =
     let (here, more) = and_parts (has_text names t) (list_all (has_text names) texts) all in
@@ -118,8 +118,8 @@ abbrev pub AreNew : List (List ℕ) → List (List ℕ) → Type 0
 AreNew before [] = Unit {0}
 AreNew before (t ∷ texts) = (has_text before t ≡ false) × AreNew (before ++ t ∷ []) texts
 
-pub distinct_are_new : (before seen texts : List (List ℕ)) → HasSame before seen → AreNew before (distinct_after seen texts)
-unfolding distinct_after
+pub distinct_are_new : (before seen texts : List (List ℕ)) → HasSame before seen → AreNew before (first_texts_after seen texts)
+unfolding distinct_after has_text
 distinct_are_new before seen [] same = tt
 distinct_are_new before seen (t ∷ texts) same =
     elim (cases_Bool (has_text seen t)) [
@@ -128,18 +128,18 @@ distinct_are_new before seen (t ∷ texts) same =
     ]
 
 first_texts_new : (seen : List (List ℕ)) (t : List ℕ) (texts : List (List ℕ)) → has_text seen t ≡ false → first_texts_after seen (t ∷ texts) ≡ t ∷ first_texts_after (t ∷ seen) texts
-unfolding first_texts_after has_text
+unfolding distinct_after has_text
 first_texts_new seen t texts e = rw (e, first_texts_after) refl
 
 pub first_texts_of_new : (before seen texts : List (List ℕ)) → HasSame before seen → AreNew before texts → first_texts_after seen texts ≡ texts
-unfolding first_texts_after
+unfolding distinct_after
 first_texts_of_new before seen [] same new = refl
 first_texts_of_new before seen (t ∷ texts) same new =
     first_texts_new seen t texts (sym (same t) ∙ new.0)
     ∙ ap (λ ts. t ∷ ts) (first_texts_of_new (before ++ t ∷ []) (t ∷ seen) texts (same_more before seen t same) new.1)
 
-pub distinct_of_once : (seen texts : List (List ℕ)) → repeated_after seen texts ≡ None → distinct_after seen texts ≡ texts
-unfolding distinct_after
+pub distinct_of_once : (seen texts : List (List ℕ)) → repeated_after seen texts ≡ None → first_texts_after seen texts ≡ texts
+unfolding distinct_after has_text
 distinct_of_once seen [] once = refl
 distinct_of_once seen (t ∷ texts) once =
     elim (cases_Bool (has_text seen t)) [
@@ -180,7 +180,7 @@ kept known x t e =
     ]
 
 all_kept : (known texts : List (List ℕ)) (t : List ℕ) → has_text known t ≡ true → has_text (with_all_new known texts) t ≡ true
-unfolding with_all_new
+unfolding all_added
 all_kept known [] t e = e
 all_kept known (x ∷ texts) t e = all_kept (with_new known x) texts t (kept known x t e)
 
@@ -192,7 +192,7 @@ taken known x =
     ]
 
 pub all_taken : (known texts : List (List ℕ)) → AreAmong (with_all_new known texts) texts
-unfolding with_all_new
+unfolding all_added
 all_taken known [] = refl
 all_taken known (x ∷ texts) = and_true _ _ (all_kept (with_new known x) texts x (taken known x)) (all_taken (with_new known x) texts)
 
@@ -204,7 +204,7 @@ one_passes p known x old e =
     ]
 
 pub all_pass : (p : List ℕ → Bool) (known texts : List (List ℕ)) → list_all p known ≡ true → list_all p texts ≡ true → list_all p (with_all_new known texts) ≡ true
-unfolding with_all_new
+unfolding all_added
 all_pass p known [] old new = old
 all_pass p known (x ∷ texts) old new =
     let (here, more) = and_parts (p x) (list_all p texts) new in

@@ -6,9 +6,11 @@ use Rattle.std.proofs.lemmas.List.{append-nil, map-append}
 use Rattle.std.proofs.lemmas.Grind.{flat_map-append}
 use Rattle.jx_base.specs.ClassNames.{is_class_name}
 use Rattle.toml.specs.Data.{Data, Items, Members, as_array, as_str, get_member}
+use Rattle.program_model.specs.Plans.{first_texts, first_texts_after}
+use Rattle.jx_base.specs.Basics.{all_added, distinct, distinct_after}
 use Rattle.system_text.specs.declared.fault.PlanFault.{PlanFault}
 use Rattle.system_text.specs.declared.fault.PlanFault.TheVariants as fault
-use Rattle.system_text.specs.Keys.{first_fault, fault_if, items_in, is_text, are_classes, classes_fault, first_repeated, twice_fault, distinct, distinct_after, domain_key, has_text, is_domain_name, name_fault, required_fault}
+use Rattle.system_text.specs.Keys.{first_fault, fault_if, items_in, is_text, are_classes, classes_fault, first_repeated, twice_fault, domain_key, has_text, is_domain_name, name_fault, required_fault}
 use Rattle.system_text.specs.Description.{classes_in, domains_in, text_in, domain_fault, domains_fault, plan_fault}
 use Rattle.system_text.specs.Scan.{are_more_classes, class_names_fault, class_items_fault, more_classes_fault, naming_fault, sizing_fault, next_domain_fault, next_domains_fault, machine_fault, unknown_key_fault, scanned_fault, with_all_new, with_new}
 use Rattle.system_text.proofs.Distinct.{HasSame, distinct-append}
@@ -43,7 +45,7 @@ three_one_two None None None None (Some x) f = refl
 three_one_two None None None None None (Some x) = refl
 three_one_two None None None None None None = refl
 
-classes_same : (before names : List (List ℕ)) → are_classes before names ≡ are_more_classes (distinct before) names
+classes_same : (before names : List (List ℕ)) → are_classes before names ≡ are_more_classes (first_texts before) names
 unfolding are_classes are_more_classes
 classes_same before names =
     ap (λ xs. nat_le 1 (length names) && nat_le (length names) 256 && list_all is_class_name names && nat_le (length xs) 256) (sym (distinct-append before names))
@@ -56,7 +58,7 @@ early_fault key before ds = first_fault (
     ∷ twice_fault (first_repeated (filter_map as_str ds)) ∷ []
     )
 
-items_same : (key : List ℕ) (before : List (List ℕ)) (ds : List Data) → early_fault key before ds ≡ class_items_fault key (distinct before) ds
+items_same : (key : List ℕ) (before : List (List ℕ)) (ds : List Data) → early_fault key before ds ≡ class_items_fault key (first_texts before) ds
 unfolding class_items_fault class_names_fault
 items_same key before ds =
     ap (λ b. first_fault (
@@ -66,12 +68,12 @@ items_same key before ds =
     )) (classes_same before (filter_map as_str ds))
     ∙ one_and_two _ _ _
 
-more_classes_same : (key : List ℕ) (before : List (List ℕ)) (d : Data) → classes_fault key before d ≡ more_classes_fault key (distinct before) d
+more_classes_same : (key : List ℕ) (before : List (List ℕ)) (d : Data) → classes_fault key before d ≡ more_classes_fault key (first_texts before) d
 unfolding classes_fault more_classes_fault
 more_classes_same key before d =
     let P : Option Items → Type 0 = λ r.
     elim r as (λ _. Option PlanFault) [ None ↦ Some (fault.Kind key) | Some ds ↦ early_fault key before (items_in ds) ]
-    ≡ elim (option_map items_in r) as (λ _. Option PlanFault) [ None ↦ Some (fault.Kind key) | Some ds ↦ class_items_fault key (distinct before) ds ] in
+    ≡ elim (option_map items_in r) as (λ _. Option PlanFault) [ None ↦ Some (fault.Kind key) | Some ds ↦ class_items_fault key (first_texts before) ds ] in
     elim (as_array d) as P [ None ↦ refl | Some ds ↦ items_same key before (items_in ds) ]
 
 required_same : (key : List ℕ) (check other : Data → Option PlanFault) (o : Option Data) → ((d : Data) → check d ≡ other d)
@@ -86,10 +88,10 @@ abbrev pub names_of : List Members → List (List ℕ)
 names_of before = map (text_in (codes "name")) before
 
 abbrev pub known_names_of : List Members → List (List ℕ)
-known_names_of before = distinct (names_of before)
+known_names_of before = first_texts (names_of before)
 
 abbrev pub known_of : List Members → List (List ℕ)
-known_of before = distinct (flat_map classes_in before)
+known_of before = first_texts (flat_map classes_in before)
 
 name_same : (key : List ℕ) (names others : List (List ℕ)) (d : Data) → HasSame names others → name_fault key names d ≡ name_fault key others d
 unfolding name_fault
@@ -118,14 +120,14 @@ pub names_more : (before : List Members) (ms : Members) → names_of (before ++ 
 names_more before ms = map-append (text_in (codes "name")) before (ms ∷ [])
 
 known_names_more : (before : List Members) (ms : Members) → known_names_of (before ++ ms ∷ []) ≡ with_new (known_names_of before) (text_in (codes "name") ms)
-unfolding with_all_new
+unfolding all_added
 known_names_more before ms =
-    ap distinct (names_more before ms)
+    ap first_texts (names_more before ms)
     ∙ sym (distinct-append (names_of before) (text_in (codes "name") ms ∷ []))
 
 known_more : (before : List Members) (ms : Members) → known_of (before ++ ms ∷ []) ≡ with_all_new (known_of before) (classes_in ms)
 known_more before ms =
-    ap distinct (flat_map-append classes_in before (ms ∷ []) ∙ ap (λ xs. flat_map classes_in before ++ xs) (append-nil (classes_in ms)))
+    ap first_texts (flat_map-append classes_in before (ms ∷ []) ∙ ap (λ xs. flat_map classes_in before ++ xs) (append-nil (classes_in ms)))
     ∙ sym (distinct-append (flat_map classes_in before) (classes_in ms))
 
 domains_same : (i : ℕ) (before domains : List Members) → domains_fault i before domains ≡ next_domains_fault i (known_names_of before) (known_of before) domains
@@ -139,5 +141,5 @@ domains_same i before (ms ∷ domains) =
     ∙ ap (λ xs. next_domains_fault (suc i) (with_new (known_names_of before) (text_in (codes "name") ms)) xs domains) (known_more before ms)))
 
 pub plan_fault-scanned : (top : Members) → plan_fault top ≡ scanned_fault top
-unfolding plan_fault scanned_fault machine_fault unknown_key_fault distinct distinct_after
+unfolding plan_fault scanned_fault machine_fault unknown_key_fault distinct distinct_after has_text
 plan_fault-scanned top = three_one_two _ _ _ _ _ _ ∙ rw (domains_same 0 [] (domains_in top)) refl

@@ -8,7 +8,9 @@ use Rattle.std.proofs.lemmas.Slice.Eq.{bytes_eq-Decides}
 use Rattle.std.proofs.lemmas.List.{map-append, length-map}
 use Rattle.std.proofs.lemmas.List.Folds.{list_any-append}
 use Rattle.indexmap.specs.IndexSet.{insert_key}
-use Rattle.system_text.specs.Keys.{has_text, distinct}
+use Rattle.program_model.specs.Plans.{first_texts}
+use Rattle.jx_base.specs.Basics.{all_added}
+use Rattle.system_text.specs.Keys.{has_text}
 use Rattle.system_text.specs.Scan.{texts_at, with_new, with_all_new}
 use Rattle.system_text.proofs.Distinct.{HasSame, with_known, with_unknown, with_all_new-distinct}
 use Rattle.system_text.proofs.Repeats.{list_any-map}
@@ -83,13 +85,13 @@ or_moved true b c = refl
 or_moved false b c = refl
 
 has_all_new : (texts others : List (List ℕ)) (t : List ℕ) → has_text (with_all_new texts others) t ≡ (has_text texts t || has_text others t)
-unfolding with_all_new has_text
+unfolding all_added has_text
 has_all_new texts [] t = sym (or_nothing (has_text texts t))
 has_all_new texts (x ∷ others) t =
     has_all_new (with_new texts x) others t
     ∙ (ap (λ b. b || has_text others t) (has_new texts x t)
     ∙ or_moved (has_text texts t) (bytes_eq t x) (has_text others t))
 
-pub has_distinct : (texts : List (List ℕ)) → HasSame texts (distinct texts)
+pub has_distinct : (texts : List (List ℕ)) → HasSame texts (first_texts texts)
 unfolding has_text
 has_distinct texts t = sym (ap (λ ts. has_text ts t) (sym (with_all_new-distinct texts)) ∙ has_all_new [] texts t)

@@ -6,9 +6,10 @@ use Rattle.jx_base.specs.declared.program.Plan.{Plan}
 use Rattle.jx_base.specs.declared.program.Template.{Template}
 use Rattle.toml.specs.Data.{Data, Members, get_member, as_str, as_integer, as_bool, as_array, as_table}
 use Rattle.toml.specs.Parse.{parse_document}
+use Rattle.program_model.specs.Plans.{first_texts}
 use Rattle.system_text.specs.declared.fault.PlanFault.{PlanFault}
 use Rattle.system_text.specs.declared.fault.PlanFault.TheVariants as fault
-use Rattle.system_text.specs.Keys.{domain_key, distinct, items_in, array_items, is_table, fault_if, first_fault, required_fault, optional_fault, number_fault, switch_fault, name_fault, classes_fault, main_fault, unknown_fault}
+use Rattle.system_text.specs.Keys.{domain_key, items_in, array_items, is_table, fault_if, first_fault, required_fault, optional_fault, number_fault, switch_fault, name_fault, classes_fault, main_fault, unknown_fault}
 
 -- ---- what a table says
 
@@ -91,7 +92,7 @@ plan_fault top = first_fault (
 
 -- the names of all classes, in order of first mention by the lists of classes
 unfoldable pub class_names : Members → List (List ℕ)
-class_names top = distinct (flat_map classes_in (domains_in top))
+class_names top = first_texts (flat_map classes_in (domains_in top))
 
 -- the place of a name
 unfoldable pub place_in : List (List ℕ) → List ℕ → ℕ

@@ -4,7 +4,9 @@ use Rattle.std.specs.List.{list_any, list_all, filter_map}
 use Rattle.std.specs.Str.{bytes_eq, chars}
 use Rattle.std.specs.Fmt.{decimal}
 use Rattle.std.specs.Char.Escape.{encode_utf16}
+unfoldable pub use Rattle.jx_base.specs.Basics.{first_fault, has_text}
 use Rattle.jx_base.specs.ClassNames.{is_class_name}
+use Rattle.program_model.specs.Plans.{first_texts}
 use Rattle.toml.specs.Data.{Data, Items, no_items, item, Members, no_members, member, as_str, as_integer, as_bool, as_array, as_table}
 use Rattle.system_text.specs.declared.fault.PlanFault.{PlanFault}
 use Rattle.system_text.specs.declared.fault.PlanFault.TheVariants as fault
@@ -19,10 +21,6 @@ units_of bytes = flat_map encode_utf16 (chars bytes)
 unfoldable pub domain_key : ℕ → List ℕ → List ℕ
 domain_key i key = codes "domain[" ++ (decimal i ++ (codes "]." ++ key))
 
--- whether a text is among these
-unfoldable pub has_text : List (List ℕ) → List ℕ → Bool
-has_text texts text = list_any (bytes_eq text) texts
-
 -- the first text that stood before, in a list behind those that were seen
 unfoldable pub repeated_after : List (List ℕ) → List (List ℕ) → Option (List ℕ)
 repeated_after seen [] = None
@@ -30,14 +28,6 @@ repeated_after seen (text ∷ texts) = if has_text seen text then Some text else
 
 unfoldable pub first_repeated : List (List ℕ) → Option (List ℕ)
 first_repeated texts = repeated_after [] texts
-
--- the texts without later repeats, and without those that were seen
-unfoldable pub distinct_after : List (List ℕ) → List (List ℕ) → List (List ℕ)
-distinct_after seen [] = []
-distinct_after seen (text ∷ texts) = if has_text seen text then distinct_after seen texts else text ∷ distinct_after (text ∷ seen) texts
-
-unfoldable pub distinct : List (List ℕ) → List (List ℕ)
-distinct texts = distinct_after [] texts
 
 -- ---- tables and arrays
 
@@ -65,12 +55,6 @@ is_table d = elim (as_table d) [ None ↦ false | Some ms ↦ true ]
 
 unfoldable pub fault_if : Bool → PlanFault → Option PlanFault
 fault_if test f = if test then Some f else None
-
--- the first fault that there is
-unfoldable pub first_fault : List (Option PlanFault) → Option PlanFault
-first_fault [] = None
-first_fault (None ∷ faults) = first_fault faults
-first_fault (Some f ∷ faults) = Some f
 
 -- the fault of a key that has to be there, and of one that need not
 unfoldable pub required_fault : List ℕ → (Data → Option PlanFault) → Option Data → Option PlanFault
@@ -117,7 +101,7 @@ twice_fault (Some name) = Some (fault.Twice name)
 unfoldable pub are_classes : List (List ℕ) → List (List ℕ) → Bool
 are_classes before names =
     nat_le 1 (length names) && nat_le (length names) 256 && list_all is_class_name names
-    && nat_le (length (distinct (before ++ names))) 256
+    && nat_le (length (first_texts (before ++ names))) 256
 
 -- the fault of a domain's classes, behind those classes
 unfoldable pub classes_fault : List ℕ → List (List ℕ) → Data → Option PlanFault
@@ -148,5 +132,5 @@ unknown_fault known_keys written ms = elim (find (λ key. not (has_text known_ke
 
 -- what a computed row opens
 unfoldable pub opened_keys : Unit {0}
-unfolding units_of domain_key has_text repeated_after first_repeated distinct_after distinct items_in keys_in array_items is_text is_table fault_if first_fault required_fault optional_fault is_between number_fault switch_fault is_domain_name name_fault twice_fault are_classes classes_fault main_fault unknown_fault
+unfolding units_of domain_key repeated_after first_repeated items_in keys_in array_items is_text is_table fault_if required_fault optional_fault is_between number_fault switch_fault is_domain_name name_fault twice_fault are_classes classes_fault main_fault unknown_fault
 opened_keys = tt

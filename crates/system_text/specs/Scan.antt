@@ -1,9 +1,11 @@
 -- Descriptions read domain by domain, with what is known of the earlier ones.
 use Rattle.std.specs.Prelude.{ℕ, suc, Bool, true, not, ◌&&◌, List, [], ◌∷◌, ◌++◌, length, map, flat_map, Option, Some, None, option_map, String, nat_le, if◌then◌else◌, codes}
 use Rattle.std.specs.List.{list_all, filter_map}
+use Rattle.std.specs.Str.{bytes_eq}
 use Rattle.std.specs.Borrow.{Bor}
 use Rattle.std.specs.BTreeMap.{BTreeMap}
 use Rattle.std.specs.declared.alloc.Global.{Global}
+use Rattle.jx_base.specs.Basics.{added, all_added}
 use Rattle.jx_base.specs.ClassNames.{is_class_name}
 use Rattle.jx_base.specs.declared.program.Plan.{Plan}
 use Rattle.jx_base.specs.declared.program.Template.{Template}
@@ -27,13 +29,12 @@ unfoldable pub capped : ℕ → ℕ
 capped n = if nat_le n 0xFFFFFFFF then n else 0xFFFFFFFF
 
 -- the texts with one that is put behind them, unless it is among them
-unfoldable pub with_new : List (List ℕ) → List ℕ → List (List ℕ)
-with_new texts text = if has_text texts text then texts else texts ++ text ∷ []
+abbrev pub with_new : List (List ℕ) → List ℕ → List (List ℕ)
+with_new texts text = added bytes_eq texts text
 
 -- the texts with those others that are new
-unfoldable pub with_all_new : List (List ℕ) → List (List ℕ) → List (List ℕ)
-with_all_new texts [] = texts
-with_all_new texts (text ∷ others) = with_all_new (with_new texts text) others
+abbrev pub with_all_new : List (List ℕ) → List (List ℕ) → List (List ℕ)
+with_all_new texts others = all_added bytes_eq texts others
 
 -- ---- faults
 
@@ -136,5 +137,5 @@ capped_plan top = record {
 
 -- what a computed row opens
 unfoldable pub opened_scan : Unit {0}
-unfolding capped with_new with_all_new domain_items_fault are_more_classes class_names_fault class_items_fault more_classes_fault naming_fault sizing_fault next_domain_fault next_domains_fault machine_fault unknown_key_fault scanned_fault capped_template capped_plan
+unfolding capped domain_items_fault are_more_classes class_names_fault class_items_fault more_classes_fault naming_fault sizing_fault next_domain_fault next_domains_fault machine_fault unknown_key_fault scanned_fault capped_template capped_plan
 opened_scan = tt

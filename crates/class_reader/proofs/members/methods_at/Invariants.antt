@@ -1,7 +1,6 @@
 use Rattle.std.proofs.Common.{◌≡◌, ◌-◌, ◌≤◌, length}
-use Rattle.class_grammar.specs.Parts.{repeated}
+use Rattle.class_grammar.specs.Parts.{repeated, with_front}
 use Rattle.class_grammar.specs.Members.{method_part}
-use Rattle.class_grammar.proofs.Repeats.{with_front}
 use Rattle.class_reader.proofs.members.methods_at.Given as goal
 
 abbrev pub invariant-loop : goal.invariant-loop

@@ -1,7 +1,7 @@
 use Rattle.std.proofs.Common.{◌≡◌, ◌+◌, ◌∷◌, drop, length}
 use Rattle.class_grammar.specs.Constants.{constants_part}
 use Rattle.jx_base.specs.declared.class_file.Constant.TheVariants.{Unusable}
-use Rattle.class_grammar.proofs.Repeats.{with_front}
+use Rattle.class_grammar.specs.Parts.{with_front}
 use Rattle.class_reader.specs.Pools.{constants_length}
 use Rattle.class_reader.proofs.pool.constants_at.Given as goal
 

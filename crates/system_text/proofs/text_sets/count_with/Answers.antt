@@ -1,5 +1,6 @@
 use Rattle.std.proofs.Common.{◌≡◌, ◌∙◌, ◌+◌, sym, ap, drop, ◌++◌, [], ℕ, List, Bor, true, false, slice_index_or, arith}
 use Rattle.std.proofs.lemmas.List.{drop_more, at_drop_all, length-append, length-map}
+use Rattle.jx_base.specs.Basics.{all_added}
 use Rattle.system_text.specs.Keys.{has_text}
 use Rattle.system_text.specs.Scan.{texts_at, with_all_new}
 use Rattle.system_text.proofs.TextSets.{known_apart, new_apart}
@@ -7,7 +8,7 @@ use Rattle.system_text.proofs.text_sets.count_with.Goals as goal
 use Rattle.system_text.proofs.text_sets.count_with.Goals.{then-not-has_text+in_ok-insert, else-not-has_text}
 
 pub loop-text-preserved : goal.loop-text-preserved
-unfolding with_all_new
+unfolding all_added
 loop-text-preserved c =
     let known = texts_at c.args.set.now.keys in
     let before = texts_at c.loop-text.fresh.keys in
@@ -26,7 +27,7 @@ loop-text-preserved c =
     ]
 
 pub returns : goal.returns
-unfolding with_all_new
+unfolding all_added
 returns c =
     let known = texts_at c.args.set.now.keys in
     let fresh = texts_at c.loop-text.fresh.keys in
