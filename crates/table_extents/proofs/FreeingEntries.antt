@@ -31,7 +31,8 @@ use Rattle.table_threads.proofs.CallActs.{caller_lives_on, running_not_queued}
 use Rattle.table_threads.proofs.CallStages.{returns_running, throws_running}
 use Rattle.table_threads.proofs.Records.{or_false, is_that, not_that}
 use Rattle.table_threads.proofs.Actors.{live_made, acts_live}
-use Rattle.table_objects.proofs.Holders.{holds_step, gives_object, drops_object, objects_grow}
+use Rattle.table_objects.proofs.Holders.{holds_step, objects_grow}
+use Rattle.table_objects.specs.HolderChanges.{gives_object, drops_object}
 use Rattle.table_objects.proofs.Parts.{PartSource, NewExtent, OfObject, part_old, part_new, part_made, part_source, valid_old, valid_new, valid_same, with_done}
 use Rattle.table_objects.proofs.UsedBefore.{Use, ByDomain, ByCall}
 use Rattle.table_objects.proofs.GivenObjects.{new_numbers}

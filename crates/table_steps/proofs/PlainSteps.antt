@@ -1,5 +1,5 @@
 -- All that is kept stands for the past with the entry, after acts that do nothing but to their thread.
-use Rattle.std.proofs.Common.{◌≡◌, refl, sym, ◌∙◌, ap, ℕ, true, false, List, [], ◌∷◌}
+use Rattle.std.proofs.Common.{◌≡◌, refl, sym, ◌∙◌, ap, ℕ, true, false, List, []}
 use Rattle.jx_base.specs.declared.act.Act.{Act}
 use Rattle.jx_base.specs.declared.act.Act.TheVariants as act
 use Rattle.jx_base.specs.declared.act.Reply.{Reply}
@@ -12,10 +12,11 @@ use Rattle.jx_model.specs.Permits.{is_choice}
 use Rattle.jx_model.specs.Replies.{reply_to}
 use Rattle.jx_model.specs.Tables.{Kept, StandsFor}
 use Rattle.jx_model.specs.Legal.{IsNext}
-use Rattle.table_threads.proofs.ThreadRecords.{thread_record_after, leaves_thread}
-use Rattle.table_threads.proofs.ThreadActs.{own_changed, threads_stepped, threads_left}
-use Rattle.table_threads.proofs.CallActs.{entry}
-use Rattle.table_steps.proofs.Unchanged.{with_entry, IsPlain, stands_after_plain, plain_act, plain_lookup, plain_refusal, is_plain_act, touches_calls}
+use Rattle.table_threads.specs.ThreadChanges.{thread_record_after, leaves_thread, own_changed}
+use Rattle.table_threads.proofs.ThreadActs.{threads_stepped, threads_left}
+use Rattle.table_threads.specs.CallChanges.{entry}
+use Rattle.table_steps.specs.Steps.{with_entry}
+use Rattle.table_steps.proofs.Unchanged.{IsPlain, stands_after_plain, plain_act, plain_lookup, plain_refusal, is_plain_act, touches_calls}
 
 adds_no_threads : (a : Act) (r : Reply) → is_plain_act a ≡ true → new_threads a r ≡ []
 unfolding new_threads

@@ -23,15 +23,17 @@ use Rattle.jx_model.specs.Tables.{Kept, StandsFor, ThreadRecord, domain_records,
 use Rattle.jx_model.specs.Legal.{IsNext, IsAdmittedPast}
 use Rattle.jx_base.proofs.BasicLaws.{ap2, and_false}
 use Rattle.table_threads.proofs.DomainRecords.{domains_same}
-use Rattle.table_threads.proofs.ThreadTable.{thread_table}
+use Rattle.table_threads.specs.ThreadChanges.{thread_table}
 use Rattle.table_threads.proofs.CallActs.{TouchesNoCall, calls_untouched, waiting_untouched}
-use Rattle.table_objects.proofs.Holders.{gives_object, drops_object}
+use Rattle.table_objects.specs.HolderChanges.{gives_object, drops_object}
 use Rattle.table_objects.proofs.ObjectRecords.{objects_same, object_record_same}
 use Rattle.table_objects.proofs.ServiceRecords.{services_kept, portals_same}
-use Rattle.table_threads.proofs.Binds.{HasLastBinds, binds_same}
+use Rattle.table_threads.specs.LastBinds.{HasLastBinds}
+use Rattle.table_threads.proofs.Binds.{binds_same}
 use Rattle.jx_model.proofs.Exported.{exported_stays}
-use Rattle.table_extents.proofs.ByteRecords.{writes}
+use Rattle.table_extents.specs.ExtentChanges.{writes}
 use Rattle.table_extents.proofs.ExtentRecords.{extents_untouched, granules_untouched}
+use Rattle.table_steps.specs.Steps.{with_entry}
 
 -- ---- what an entry doesn't do
 
@@ -75,16 +77,6 @@ no_drop e h d m = turn (is_own d e) (is_done e.reply) (is_drop_of m e.act) ∙ a
     turn false y z = refl
 
 -- ---- what each entry changes
-
--- what is kept with the entry, before what its act does to the tables
-abbrev pub with_entry : Kept → Entry → Kept
-with_entry k e =
-    record k {
-      past = e ∷ k.past;
-      over = is_ending e.act || k.over;
-      words = k.words + entry_words e;
-      creates = k.creates + (if is_create_entry e then 1 else 0);
-    }
 
 module _ (s : System) (k : Kept) (e : Entry) (h : StandsFor s k) (n : IsNext s k.past e) where
   -- whether the run is over
