@@ -9,3 +9,4 @@ pub mod Serving
 pub mod RefusedThreads
 pub mod Reasons
 pub mod Exported
+pub mod DoneReplies

@@ -40,6 +40,7 @@ use Rattle.machine_laws.proofs.EntryValues.{loosen}
 use Rattle.machine_laws.proofs.NumericValues.{then_some}
 use Rattle.machine_laws.proofs.Natives.{class_fits_string, string_type}
 use Rattle.std.specs.Option.{option_and_then, option_map}
+use Rattle.jx_model.proofs.DoneReplies.{undone}
 
 -- ---- what fits a domain
 
@@ -156,11 +157,6 @@ unqueued : (b : Bool) (r : Refusal) (rest : Reply) → is_some (queued_as (b ref
 unfolding ◌refuses◌else◌ queued_as
 unqueued false r rest h = (refl, h)
 unqueued true r rest h = cc
-
-undone : (b : Bool) (r : Refusal) (rest : Reply) → is_done (b refuses r else rest) ≡ true → (b ≡ false) × (is_done rest ≡ true)
-unfolding ◌refuses◌else◌ is_done
-undone false r rest h = (refl, h)
-undone true r rest h = cc
 
 not_false : (b : Bool) → not b ≡ false → b ≡ true
 not_false true h = refl

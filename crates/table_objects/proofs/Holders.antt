@@ -1,5 +1,5 @@
 -- Which domains hold an object after an entry more.
-use Rattle.std.proofs.Common.{◌≡◌, ◌≢◌, refl, sym, ◌∙◌, ap, ℕ, suc, zero, ◌+◌, ◌<◌, ◌≤◌, Bool, true, false, not, cond, ◌&&◌, ◌||◌, List, ◌∷◌, Option, Some, None, arith, ◌==◌, if◌then◌else◌, ◌⊎◌, inl, inr, filter, length-append}
+use Rattle.std.proofs.Common.{◌≡◌, ◌≢◌, refl, sym, ◌∙◌, ap, ℕ, suc, zero, ◌+◌, ◌<◌, ◌≤◌, Bool, true, false, not, cond, ◌&&◌, ◌||◌, List, ◌∷◌, Option, Some, None, arith, ◌==◌, if◌then◌else◌, ◌⊎◌, inl, inr, filter}
 use Rattle.std.specs.Prelude.{nat_le}
 use Rattle.std.specs.List.{range_with_len}
 use Rattle.std.proofs.lemmas.Bool.Decides.{nat_tests}
@@ -11,12 +11,12 @@ use Rattle.program_model.specs.Limits.{domain_limit}
 use Rattle.jx_base.specs.Histories.{Past, is_done, is_own}
 use Rattle.jx_model.specs.Domains.{is_made, is_live, domains_made, ended_by}
 use Rattle.jx_model.specs.Calls.{ends_domain}
-use Rattle.jx_model.specs.MemoryObjects.{objects_of, objects_made, new_parts, extents_made}
+use Rattle.jx_model.specs.MemoryObjects.{objects_made}
 use Rattle.jx_model.specs.Holding.{received_objects, is_drop_of, keeps_after, keeps_object, holds_object, holders}
 use Rattle.jx_model.specs.Tables.{holder_flags}
 use Rattle.jx_model.specs.Legal.{IsNext}
-use Rattle.jx_base.proofs.BasicLaws.{ap2, ap3, eq_of, and_false}
-use Rattle.jx_model.proofs.Refusals.{keeps_guarded}
+use Rattle.jx_base.proofs.BasicLaws.{ap2, ap3, eq_of, and_false, at_most, beyond}
+use Rattle.jx_model.proofs.Refusals.{keeps_guarded, objects_grow}
 use Rattle.table_threads.proofs.Records.{not_that, is_that, same_or_not, map_range, each_map}
 use Rattle.table_threads.specs.Changes.{each_record}
 use Rattle.table_threads.proofs.Actors.{IsMade, made_is, is_made_at, made_stays, unmade_acts, actor_live}
@@ -24,11 +24,6 @@ use Rattle.table_threads.proofs.CallStages.{live_after}
 use Rattle.table_objects.specs.HolderChanges.{gives_object, drops_object, held_after}
 
 -- ---- what is made
-
--- objects stay
-pub objects_grow : (e : Entry) (past : Past) → objects_made past ≤ objects_made (e ∷ past)
-unfolding objects_made objects_of
-objects_grow e past = omega (arith, length-append (objects_of past) (new_parts (objects_of past) (extents_made past + 1) e.act e.reply))
 
 above : (a b : ℕ) → b < a → nat_le a b ≡ false
 above a b l = grind (arith, nat_tests)
@@ -143,12 +138,6 @@ holder_is past d m h = contains_kept (λ d. holds_object past d m) 1 (domains_ma
 
 -- ---- the flags of an object's holders
 
-pub at_most : (x y : ℕ) → nat_le x y ≡ true → x ≤ y
-at_most x y q = grind (arith, nat_tests)
-
-pub beyond : (x y : ℕ) → nat_le x y ≡ false → y < x
-beyond x y q = grind (arith, nat_tests)
-
 pub own_lives : (s : System) (past : Past) (e : Entry) (d : ℕ) → IsNext s past e → 1 ≤ d → (e.domain.0 == d) ≡ true → is_live past d ≡ true
 own_lives s past e d n l q = by (actor_live s past e n)
   where
@@ -200,4 +189,3 @@ unfolding up_to ends_domain
 flags_same s e past m n h z g r =
     map_range (λ d. holds_object (e ∷ past) d m) (λ d. holds_object past d m) 1 (domain_limit s) (λ d l u.
     holds_every s e past d m n l h ∙ ap3 (λ (x : Option (ℕ × Reason)) (p q : Bool). not (ends_domain x (Some d)) && (p || (not q && holds_object past d m))) z (g d) (r d))
-

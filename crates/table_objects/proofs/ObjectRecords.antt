@@ -20,11 +20,11 @@ use Rattle.jx_model.specs.Holding.{received_objects, holds_object}
 use Rattle.jx_model.specs.Growth.{new_object_numbers}
 use Rattle.jx_model.specs.Tables.{ObjectRecord, object_record, object_records, call_records}
 use Rattle.jx_model.specs.Legal.{IsNext, IsAdmittedPast}
-use Rattle.jx_base.proofs.BasicLaws.{ap2, ap3, up_to_append, and_false}
+use Rattle.jx_base.proofs.BasicLaws.{ap2, ap3, up_to_append, and_false, at_most, beyond}
 use Rattle.table_threads.proofs.Records.{records_same, map_range, not_that, is_that, same_or_not}
 use Rattle.table_threads.proofs.Actors.{unmade_acts}
 use Rattle.table_objects.proofs.GivenObjects.{new_numbers}
-use Rattle.table_objects.proofs.Holders.{holds_step, keeps_none, newborn_holds, flags_same, own_lives, at_most, beyond}
+use Rattle.table_objects.proofs.Holders.{holds_step, keeps_none, newborn_holds, flags_same, own_lives}
 use Rattle.table_objects.specs.HolderChanges.{gives_object, drops_object}
 use Rattle.table_objects.proofs.Parts.{valid_new, valid_old, valid_same}
 use Rattle.table_objects.proofs.Riding.{riding_new, riding_same}

@@ -15,10 +15,9 @@ use Rattle.jx_model.specs.MemoryObjects.{Part, part_within, sides_at, made_of, n
 use Rattle.jx_model.specs.Holding.{holds_object}
 use Rattle.jx_model.specs.Replies.{reply_to, with_object}
 use Rattle.jx_model.specs.Legal.{IsNext, IsAdmittedPast}
-use Rattle.jx_base.proofs.BasicLaws.{ap2, and_true}
+use Rattle.jx_base.proofs.BasicLaws.{ap2, and_true, get_left, get_right, turned}
 use Rattle.jx_base.proofs.NthEntries.{count_new, count_grows}
-use Rattle.table_threads.proofs.Records.{get_left, get_right}
-use Rattle.table_objects.proofs.UsedBefore.{undone, turned}
+use Rattle.jx_model.proofs.DoneReplies.{undone}
 
 -- ---- parts
 

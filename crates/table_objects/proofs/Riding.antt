@@ -14,7 +14,8 @@ use Rattle.jx_model.specs.Holding.{holds_object, keeps_object, carried, riders, 
 use Rattle.jx_model.specs.Tables.{CallRecord, call_record, call_records}
 use Rattle.jx_model.specs.Legal.{IsAdmittedPast}
 use Rattle.table_threads.proofs.Records.{one_if, filter_none}
-use Rattle.table_objects.proofs.Holders.{keeps_none, objects_grow}
+use Rattle.table_objects.proofs.Holders.{keeps_none}
+use Rattle.jx_model.proofs.Refusals.{objects_grow}
 use Rattle.table_objects.proofs.UsedBefore.{Use, ByDomain, ByCall, carried_use}
 use Rattle.table_objects.proofs.ExtentsInUse.{carrier_made}
 use Rattle.jx_base.proofs.BasicLaws.{both}

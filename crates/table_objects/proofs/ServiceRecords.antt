@@ -18,15 +18,15 @@ use Rattle.jx_model.specs.Tables.{ServiceRecord, service_record, service_records
 use Rattle.jx_model.specs.Permits.{zero_may, is_halt}
 use Rattle.jx_model.specs.Replies.{reply_to, bound}
 use Rattle.jx_model.specs.Legal.{IsNext, IsAdmittedPast}
-use Rattle.jx_base.proofs.BasicLaws.{ap2, ap3, both, and_false}
+use Rattle.jx_base.proofs.BasicLaws.{ap2, ap3, both, and_false, at_most, beyond, turned}
 use Rattle.jx_base.proofs.NthEntries.{nth_new, nth_old, count_new, count_same}
 use Rattle.table_threads.proofs.Records.{map_range, records_same, records_more, each_map}
 use Rattle.table_threads.specs.Changes.{each_record}
 use Rattle.table_threads.proofs.Actors.{IsMade, made_is, is_made_at, live_made, made_stays, unmade_acts, acts_live}
 use Rattle.table_threads.proofs.CallStages.{live_after}
-use Rattle.table_objects.proofs.Holders.{own_lives, at_most, beyond}
+use Rattle.table_objects.proofs.Holders.{own_lives}
 use Rattle.table_objects.specs.HolderChanges.{portal_after}
-use Rattle.table_objects.proofs.UsedBefore.{undone, turned}
+use Rattle.jx_model.proofs.DoneReplies.{undone}
 use Rattle.jx_model.proofs.Exported.{IsExported, is_exported_at, exported_stays, services_grow, portal_made, held_made}
 use Rattle.std.specs.Option.{option_and_then, option_map, unwrap_or}
 use Rattle.table_objects.specs.ObjectChanges.{new_service_record}

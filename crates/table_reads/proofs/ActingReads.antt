@@ -19,7 +19,7 @@ use Rattle.jx_model.specs.Calls.{calls_made, service_of_call, server_of, queue_h
 use Rattle.jx_model.specs.Permits.{domain_thread, may_perform, choice_thread, taking_thread, resuming_thread, going_thread, idle_thread, is_idle_for, is_waiting_for, is_yielded, is_serving, is_head, is_over, is_ending, creates_made, is_create_entry, acting_thread, zero_may, zero_may_now, domains_wait, is_halt, next_boot, boot_templates, first_alive}
 use Rattle.program_model.specs.Limits.{journal_limit, entry_limit}
 use Rattle.jx_model.specs.Tables.{domain_records, ThreadRecord, thread_record, thread_records, CallRecord, call_record, call_records, ServiceRecord, service_record, service_records}
-use Rattle.jx_base.proofs.BasicLaws.{ap2, ap3}
+use Rattle.jx_base.proofs.BasicLaws.{ap2, ap3, at_most, beyond}
 use Rattle.jx_base.proofs.NthEntries.{nth_passes, nth_there, nth_none}
 use Rattle.table_threads.proofs.Records.{get_range, some_of, numbered_record, no_record}
 use Rattle.table_threads.proofs.CallActs.{call_service_there}
@@ -50,14 +50,6 @@ get_none : {A : Type 0} (xs : List A) (i : ℕ) → length xs ≤ i → slice_ge
 get_none [] i l = refl
 get_none (x ∷ xs) zero l = absurd (omega (arith, l))
 get_none (x ∷ xs) (suc i) l = get_none xs i (omega (arith, l))
-
--- what the test of an order says
-pub at_most : (x y : ℕ) → nat_le x y ≡ true → x ≤ y
-at_most x y q = grind (arith, nat_tests)
-
--- and what its failure says
-pub beyond : (x y : ℕ) → nat_le x y ≡ false → y < x
-beyond x y q = grind (arith, nat_tests)
 
 no_state : (past : Past) (d t : ℕ) → length (service_threads past d) < t → thread_state past d t ≡ None
 unfolding thread_state

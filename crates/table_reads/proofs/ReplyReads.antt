@@ -23,7 +23,7 @@ use Rattle.jx_model.specs.Replies.{reply_to}
 use Rattle.jx_model.specs.Tables.{domain_record, domain_records, ServiceRecord, service_record, service_records, CallRecord, call_record, call_records, ObjectRecord, object_record, object_records, granule_flags, extent_record, extent_bytes, named_service}
 use Rattle.table_threads.specs.LastBinds.{HasLastBinds}
 use Rattle.jx_model.specs.Legal.{IsAdmittedPast}
-use Rattle.jx_base.proofs.BasicLaws.{ap2, both}
+use Rattle.jx_base.proofs.BasicLaws.{ap2, both, at_most, beyond}
 use Rattle.jx_base.proofs.NthEntries.{nth_passes, nth_there, nth_none}
 use Rattle.jx_model.proofs.Refusals.{valid_none}
 use Rattle.table_threads.specs.Changes.{is_set}
@@ -37,7 +37,7 @@ use Rattle.table_threads.proofs.CallActs.{call_caller_there}
 use Rattle.table_extents.proofs.Granules.{fits_spawn}
 use Rattle.table_reads.specs.TableReads.{lives_in, owner_in, flag_at, is_flagged}
 use Rattle.table_reads.proofs.ChoiceReads.{lives_by_records, unmade_entry}
-use Rattle.table_reads.proofs.ActingReads.{by_number, owner_by_records, no_export, at_most, beyond}
+use Rattle.table_reads.proofs.ActingReads.{by_number, owner_by_records, no_export}
 use Rattle.std.specs.Option.{option_and_then, option_map, unwrap_or}
 
 -- ---- domains

@@ -41,7 +41,8 @@ use Rattle.table_threads.proofs.ThreadActs.{threads_left, threads_stepped, threa
 use Rattle.table_threads.proofs.CallRecords.{calls_counted, call_record_there}
 use Rattle.table_threads.specs.CallChanges.{entry, ended_call, owned_by}
 use Rattle.table_threads.proofs.CallActs.{calls_untouched, calls_after_call, waiting_after_call, calls_after_take, waiting_after_take, calls_after_answer, waiting_after_answer, running_not_queued, return_answers, throw_answers, sent_objects, calls_after_resume, waiting_after_resume, calls_after_end, waiting_after_end}
-use Rattle.table_objects.proofs.UsedBefore.{undone, ByDomain}
+use Rattle.table_objects.proofs.UsedBefore.{ByDomain}
+use Rattle.jx_model.proofs.DoneReplies.{undone}
 use Rattle.table_objects.proofs.ExtentsInUse.{in_use}
 use Rattle.table_objects.proofs.Parts.{part_extent, with_done}
 use Rattle.table_extents.specs.ExtentChanges.{written, freed_runs}

@@ -24,10 +24,7 @@ use Rattle.jx_model.proofs.Serving.{in_domain, of_none, served, takes, returns_i
 use Rattle.table_threads.proofs.Records.{some_of}
 use Rattle.table_threads.proofs.Actors.{IsMade, live_made, made_stays, acts_live, live_by_reason}
 use Rattle.std.specs.Option.{option_map}
-
-chosen : (b : Bool) (t : ℕ) (x : Option ℕ) → (if b then x else None) ≡ Some t → (b ≡ true) × (x ≡ Some t)
-chosen true t x h = (refl, h)
-chosen false t x h = cc
+use Rattle.jx_model.proofs.Acting.{chosen}
 
 -- ---- resumes
 

@@ -5,8 +5,8 @@ use Rattle.jx_base.specs.declared.act.Entry.{Entry}
 use Rattle.jx_base.specs.Histories.{Past, nth_entry, count_where}
 use Rattle.jx_model.specs.Calls.{Answer, answer_of, answered_by, call_entry, first_since}
 use Rattle.jx_model.specs.Tables.{place_of, answered_at}
-use Rattle.jx_base.proofs.BasicLaws.{ap2}
-use Rattle.table_threads.proofs.Records.{is_that, not_that, get_left, get_right}
+use Rattle.jx_base.proofs.BasicLaws.{ap2, get_left, get_right}
+use Rattle.table_threads.proofs.Records.{is_that, not_that}
 use Rattle.std.specs.Option.{option_and_then, option_map}
 
 -- a place is one of the history's

@@ -174,18 +174,6 @@ pub records_get : {A : Type 0} (f : ℕ → A) (n c i : ℕ) → c ≡ i + 1 →
 unfolding up_to
 records_get f n c i e l = get_range f 1 n i (omega (arith, e, l)) ∙ ap (λ (k : ℕ). Some (f k)) (omega (arith, e))
 
--- an item of a list with more behind it
-pub get_left : {A : Type 0} (xs ys : List A) (i : ℕ) → i < length xs → slice_get (xs ++ ys) i ≡ slice_get xs i
-get_left [] ys i l = absurd (omega (arith, l))
-get_left (x ∷ xs) ys zero l = refl
-get_left (x ∷ xs) ys (suc i) l = get_left xs ys i (omega (arith, l))
-
--- an item behind a list
-pub get_right : {A : Type 0} (xs ys : List A) (i j : ℕ) → j ≡ length xs + i → slice_get (xs ++ ys) j ≡ slice_get ys i
-get_right [] ys i j q = ap (slice_get ys) (omega (arith, q))
-get_right (x ∷ xs) ys i zero q = absurd (omega (arith, q))
-get_right (x ∷ xs) ys i (suc j) q = get_right xs ys i j (omega (arith, q))
-
 -- a record by its number
 pub numbered_record : {A : Type 0} (f : ℕ → A) (n d : ℕ) → 1 ≤ d → d ≤ n → numbered (map f (up_to n)) d ≡ Some (f d)
 unfolding numbered

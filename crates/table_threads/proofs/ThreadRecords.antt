@@ -176,4 +176,3 @@ record_left past d t a r h l =
     ∙ sym (running_record past d t h)
 
 -- ---- new threads
-
