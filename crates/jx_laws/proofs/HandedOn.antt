@@ -21,7 +21,7 @@ use Rattle.jx_model.proofs.Growing.{moment, before_admitted}
 use Rattle.jx_laws.specs.Handed.{WasSent, ParcelsWereHeld}
 use Rattle.jx_laws.proofs.Basics.{unturned, nth_moment, moment_more}
 use Rattle.jx_laws.proofs.Standing.{IsCallAct, queued_at}
-use Rattle.std.specs.Option.{option_and_then}
+use Rattle.std.specs.Option.{option_and_then, option_or}
 use Rattle.jx_model.proofs.DoneReplies.{undone}
 
 -- ---- parcels of calls
@@ -72,7 +72,7 @@ unfolding first_since
 since_moment f [] c a h = cc
 since_moment {A} f (e ∷ past) c a h = by (first_since f past c) (is_some (call_entry past c)) refl h (since_moment f past c a)
   where
-    by : (o : Option A) (b : Bool) → first_since f past c ≡ o → (elim o as (λ _. Option A) [ Some a ↦ Some a | None ↦ elim b [ true ↦ f past e | false ↦ None ] ]) ≡ Some a →
+    by : (o : Option A) (b : Bool) → first_since f past c ≡ o → (option_or o (if b then f past e else None)) ≡ Some a →
         (first_since f past c ≡ Some a → CameBy f past a) → CameBy f (e ∷ past) a
     by (Some x) b q h again =
         let k = again (q ∙ h) in record { entry = k.entry; before = k.before; moment = moment_more e k.entry past k.before k.moment; gives = k.gives }

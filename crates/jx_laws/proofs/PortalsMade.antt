@@ -32,7 +32,7 @@ use Rattle.jx_base.proofs.NthEntries.{count_new}
 use Rattle.jx_model.proofs.Exported.{IsExported, services_grow, exported_stays, interface_made, portal_made}
 use Rattle.jx_laws.proofs.Living.{actor_live, live_made, made_stays}
 use Rattle.jx_laws.specs.Handed.{PortalsAreKept}
-use Rattle.std.specs.Option.{option_and_then}
+use Rattle.std.specs.Option.{option_and_then, option_or}
 
 -- ---- portals in parcels
 
@@ -142,7 +142,7 @@ unfolding answer_of first_since
 answer_made_of s [] c x k h q i = cc
 answer_made_of s (e ∷ past) c x k h q i = by (first_since (λ before e. answered_by before e c) past c) refl (is_some (call_entry past c)) q (answer_made_of s past c x k h.1)
   where
-    by : (o : Option Answer) → first_since (λ before e. answered_by before e c) past c ≡ o → (b : Bool) → (elim o as (λ _. Option Answer) [ Some a ↦ Some a | None ↦ elim b [ true ↦ answered_by past e c | false ↦ None ] ]) ≡ Some x →
+    by : (o : Option Answer) → first_since (λ before e. answered_by before e c) past c ≡ o → (b : Bool) → (option_or o (if b then answered_by past e c else None)) ≡ Some x →
         (first_since (λ before e. answered_by before e c) past c ≡ Some x → contains_number (answer_portals x) k ≡ true → IsExported past k) → IsExported (e ∷ past) k
     by (Some a) w b q again = exported_stays e past k (again (w ∙ q) i)
     by None w true q again = exported_stays e past k (answered_well s e past c x k h.0 q i)

@@ -27,7 +27,7 @@ use Rattle.jx_model.specs.Legal.{IsNext}
 use Rattle.jx_model.specs.Growth.{HasSameDomains, HasSameServices, HasSameObjects, HasSameCalls, HasSameBytes}
 use Rattle.jx_base.proofs.BasicLaws.{ap2, ap3, pick_false, and_true, and_false}
 use Rattle.jx_base.proofs.NthEntries.{nth_same, count_same}
-use Rattle.std.specs.Option.{option_and_then, option_map}
+use Rattle.std.specs.Option.{option_and_then, option_map, option_or}
 
 -- ---- what a refusal is no instance of
 
@@ -298,10 +298,10 @@ module _ (s : System) (past : Past) (e : Entry) (r : Refusal) (next : IsNext s p
   answer : (c : ℕ) → is_answer_to c e.act ≡ false → answer_of (e ∷ past) c ≡ answer_of past c
   unfolding answer_of first_since
   answer c h =
-      ap (λ (x : Option Answer). elim (answer_of past c) as (λ _. Option Answer) [ Some a ↦ Some a | None ↦ elim (is_some (call_entry past c)) [ true ↦ x | false ↦ None ] ]) (answered c h)
+      ap (λ (x : Option Answer). option_or (answer_of past c) (if is_some (call_entry past c) then x else None)) (answered c h)
       ∙ by (answer_of past c) (is_some (call_entry past c))
     where
-      by : (o : Option Answer) (b : Bool) → (elim o as (λ _. Option Answer) [ Some a ↦ Some a | None ↦ elim b [ true ↦ None | false ↦ None ] ]) ≡ o
+      by : (o : Option Answer) (b : Bool) → (option_or o (if b then None else None)) ≡ o
       by (Some a) b = refl
       by None true = refl
       by None false = refl

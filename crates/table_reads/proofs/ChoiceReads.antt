@@ -133,7 +133,7 @@ pub unmade_answer : (past : Past) (c : ℕ) → (c ≡ 0) ⊎ (calls_made past <
 unfolding answer_of first_since
 unmade_answer [] c h = refl
 unmade_answer (e ∷ past) c h =
-    ap2 (λ (o : Option Answer) (x : Option Entry). elim o as (λ _. Option Answer) [ Some a ↦ Some a | None ↦ elim (is_some x) [ true ↦ answered_by past e c | false ↦ None ] ])
+    ap2 (λ (o : Option Answer) (x : Option Entry). option_or o (if is_some x then answered_by past e c else None))
     (unmade_answer past c (before h)) (unmade_entry past c (before h))
   where
     before : (c ≡ 0) ⊎ (calls_made (e ∷ past) < c) → (c ≡ 0) ⊎ (calls_made past < c)

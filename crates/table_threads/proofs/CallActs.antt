@@ -31,7 +31,7 @@ use Rattle.table_threads.proofs.Records.{not_that, is_that, records_same, map_ma
 use Rattle.table_threads.proofs.Places.{answered_placed}
 use Rattle.table_threads.proofs.CallStages.{StandsAt, resumed_answered, live_caller_after, resumes, resumable_parts}
 use Rattle.table_threads.proofs.CallRecords.{place_after, place_kept, state_after_entry, carried_after, call_record_made, call_record_same, call_record_new, calls_same, calls_more, calls_one, unqueues, waiting_after, waiting_same, waiting_more}
-use Rattle.std.specs.Option.{option_and_then, option_map, unwrap_or}
+use Rattle.std.specs.Option.{option_and_then, option_map, unwrap_or, option_or}
 use Rattle.table_threads.specs.CallChanges.{entry, owned_by, state_after_end, carried_after_end, place_after_end, ended_call}
 
 -- tests that agree keep the same
@@ -431,7 +431,7 @@ answered_made (e ∷ past) c x h = by (first_since (λ before e. answered_by bef
     grown m = (m.0, omega (arith, m.1, count_grows is_call e past))
 
     by : (o : Option Answer) → first_since (λ before e. answered_by before e c) past c ≡ o → (p : Option Entry) → nth_entry is_call past c ≡ p →
-        (elim o as (λ _. Option Answer) [ Some a ↦ Some a | None ↦ elim (is_some p) [ true ↦ answered_by past e c | false ↦ None ] ]) ≡ Some x →
+        (option_or o (if is_some p then answered_by past e c else None)) ≡ Some x →
         ((y : Answer) → first_since (λ before e. answered_by before e c) past c ≡ Some y → (1 ≤ c) × (c ≤ calls_made past)) → (1 ≤ c) × (c ≤ calls_made (e ∷ past))
     by (Some y) q p w h again = grown (again y q)
     by None q None w h again = cc
