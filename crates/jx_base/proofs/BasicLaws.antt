@@ -1,8 +1,9 @@
 -- Small facts on tests, options and ranges.
-use Rattle.std.proofs.Common.{◌≡◌, ◌≢◌, refl, sym, ◌∙◌, ap, ℕ, suc, zero, ◌+◌, ◌<◌, ◌≤◌, Bool, true, false, cond, ◌&&◌, ◌∷◌, ◌++◌, Option, Some, None, arith, ◌==◌}
+use Rattle.std.proofs.Common.{◌≡◌, ◌≢◌, refl, sym, ◌∙◌, ap, ℕ, suc, zero, ◌+◌, ◌<◌, ◌≤◌, Bool, true, false, not, cond, ◌&&◌, List, [], ◌∷◌, ◌++◌, length, Option, Some, None, arith, ◌==◌, slice_get}
+use Rattle.std.specs.Prelude.{nat_le}
 use Rattle.std.specs.List.{range_with_len, find}
 use Rattle.std.proofs.lemmas.Bool.Decides.{nat_tests}
-use Rattle.jx_base.specs.Basics.{up_to, passes}
+use Rattle.jx_base.specs.Basics.{up_to, passes, contains_number}
 
 pub ap2 : {A B C : Type 0} (f : A → B → C) {a x : A} {b y : B} → a ≡ x → b ≡ y → f a b ≡ f x y
 ap2 f p q = cc
@@ -97,3 +98,33 @@ range_append a (suc n) k =
 pub up_to_append : (n k : ℕ) → up_to (n + k) ≡ up_to n ++ range_with_len (n + 1) k
 unfolding up_to
 up_to_append n k = range_append 1 n k ∙ ap (λ x. range_with_len 1 n ++ range_with_len x k) (omega arith)
+
+-- an item of a list with more behind it
+pub get_left : {A : Type 0} (xs ys : List A) (i : ℕ) → i < length xs → slice_get (xs ++ ys) i ≡ slice_get xs i
+get_left [] ys i l = absurd (omega (arith, l))
+get_left (x ∷ xs) ys zero l = refl
+get_left (x ∷ xs) ys (suc i) l = get_left xs ys i (omega (arith, l))
+
+-- an item behind a list
+pub get_right : {A : Type 0} (xs ys : List A) (i j : ℕ) → j ≡ length xs + i → slice_get (xs ++ ys) j ≡ slice_get ys i
+get_right [] ys i j q = ap (slice_get ys) (omega (arith, q))
+get_right (x ∷ xs) ys i zero q = absurd (omega (arith, q))
+get_right (x ∷ xs) ys i (suc j) q = get_right xs ys i j (omega (arith, q))
+
+-- a number that passes the test of a bound
+pub at_most : (x y : ℕ) → nat_le x y ≡ true → x ≤ y
+at_most x y q = grind (arith, nat_tests)
+
+-- a number that fails it
+pub beyond : (x y : ℕ) → nat_le x y ≡ false → y < x
+beyond x y q = grind (arith, nat_tests)
+
+-- a test whose contrary fails passes
+pub turned : (b : Bool) → not b ≡ false → b ≡ true
+turned true h = refl
+turned false h = cc
+
+-- nothing is in an empty list
+pub nothing : {A : Type 0} (k : ℕ) → contains_number [] k ≡ true → A
+unfolding contains_number
+nothing k h = cc

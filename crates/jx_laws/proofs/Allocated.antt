@@ -12,11 +12,10 @@ use Rattle.jx_base.specs.declared.act.Entry.{Entry}
 use Rattle.jx_base.specs.declared.ids.ObjectId.{ObjectId}
 use Rattle.jx_base.specs.declared.program.System.{System}
 use Rattle.jx_base.specs.Basics.{numbered, contains_number, not_below_zero}
-use Rattle.jx_base.specs.Histories.{Past, is_own}
+use Rattle.jx_base.specs.Histories.{Past, is_own, is_done}
 use Rattle.jx_model.specs.Domains.{is_made, ended_by, ended_by_act, reason_for}
 use Rattle.jx_model.specs.MemoryObjects.{Part, makes_extent, is_allocation, new_parts, objects_of, objects_made, object_part, extents_made, is_valid, lineage_of, ends_one_of}
 use Rattle.jx_model.specs.Holding.{received_objects, keeps_after, keeps_object, holds_object, is_extent_in_use, is_drop_of}
-use Rattle.jx_base.specs.Histories.{is_done}
 use Rattle.jx_model.specs.Permits.{is_zero_act}
 use Rattle.jx_model.specs.Replies.{reply_to, allocated, new_object, given_or, ◌refuses◌else◌}
 use Rattle.jx_model.specs.Legal.{IsNext}

@@ -19,7 +19,7 @@ use Rattle.jx_model.proofs.Growing.{moment}
 use Rattle.jx_model.proofs.Serving.{in_domain, of_none, Answers}
 use Rattle.jx_laws.proofs.Basics.{turned, nth_moment}
 use Rattle.jx_laws.proofs.Living.{actor_live, live_made, live_before, made_later, made_stays}
-use Rattle.std.specs.Option.{option_map}
+use Rattle.std.specs.Option.{option_map, option_or}
 
 -- ---- the acts on calls
 
@@ -68,7 +68,7 @@ since_there {A} f (e ∷ past) c x h = by (first_since f past c) (is_some (call_
     more k = (k.0, omega (arith, k.1, count_grows is_call e past))
 
     by : (o : Option A) (b : Bool) → first_since f past c ≡ o → is_some (call_entry past c) ≡ b →
-        (elim o as (λ _. Option A) [ Some a ↦ Some a | None ↦ elim b [ true ↦ f past e | false ↦ None ] ]) ≡ Some x →
+        (option_or o (if b then f past e else None)) ≡ Some x →
         (first_since f past c ≡ Some x → (1 ≤ c) × (c ≤ calls_made past)) → (1 ≤ c) × (c ≤ calls_made (e ∷ past))
     by (Some a) b q r h again = more (again (q ∙ h))
     by None true q r h again = more (entry_there past c r)

@@ -20,7 +20,7 @@ use Rattle.jx_model.proofs.Growing.{moment, before_admitted}
 use Rattle.jx_model.proofs.Serving.{take_at}
 use Rattle.jx_laws.proofs.Basics.{fails, clash, value_of}
 use Rattle.jx_laws.proofs.CallFacts.{take_is, resume_is, since_there, entry_there, caller_before, resume_at}
-use Rattle.std.specs.Option.{option_and_then, option_map}
+use Rattle.std.specs.Option.{option_and_then, option_map, option_or}
 
 -- ---- takes
 
@@ -126,7 +126,7 @@ discarded s (e ∷ past) c a h =
     stays u l = fails (has_live_caller (e ∷ past) c) (λ x. clash (has_live_caller past c) (caller_before s e past c a.1 u x) l)
 
     by : (o : Option Answer) (b : Bool) → first_since (λ before e. answered_by before e c) past c ≡ o → is_some (call_entry past c) ≡ b →
-        (elim o as (λ _. Option Answer) [ Some a ↦ Some a | None ↦ elim b [ true ↦ answered_by past e c | false ↦ None ] ]) ≡ Some Answer.Discarded →
+        (option_or o (if b then answered_by past e c else None)) ≡ Some Answer.Discarded →
         (first_since (λ before e. answered_by before e c) past c ≡ Some Answer.Discarded → has_live_caller past c ≡ false) → has_live_caller (e ∷ past) c ≡ false
     by (Some x) b q r h again = stays (since_there (λ before e. answered_by before e c) past c x q).1 (again (q ∙ h))
     by None true q r h again = stays (entry_there past c r).1 (entry_discards s past e c a.0 h)

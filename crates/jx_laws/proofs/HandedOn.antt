@@ -4,7 +4,6 @@ use Rattle.jx_base.specs.declared.act.Act.{Act}
 use Rattle.jx_base.specs.declared.act.Act.TheVariants as act
 use Rattle.jx_base.specs.declared.act.Reply.{Reply}
 use Rattle.jx_base.specs.declared.act.Reply.TheVariants as reply
-use Rattle.jx_base.specs.declared.act.Refusal.{Refusal}
 use Rattle.jx_base.specs.declared.act.Refusal.TheVariants as refusal
 use Rattle.jx_base.specs.declared.act.Entry.{Entry}
 use Rattle.jx_base.specs.declared.ids.CallId.{CallId}
@@ -16,13 +15,14 @@ use Rattle.jx_base.specs.Histories.{Past, is_done, nth_entry}
 use Rattle.jx_model.specs.Moments.{IsMoment}
 use Rattle.jx_model.specs.Portals.{received_parcel}
 use Rattle.jx_model.specs.Calls.{Asked, Answer, is_call, asked_by, call_entry, asked_of, first_since, answer_of, answered_by, answered_by_act, answer_by_reply, refused_answer, thrown, ends_server}
-use Rattle.jx_model.specs.Replies.{reply_to, job_of, or_done, answer_reply, sent_back, holds_all, ◌refuses◌else◌}
+use Rattle.jx_model.specs.Replies.{reply_to, job_of, or_done, answer_reply, sent_back, holds_all}
 use Rattle.jx_model.specs.Legal.{IsNext, IsAdmittedPast}
 use Rattle.jx_model.proofs.Growing.{moment, before_admitted}
 use Rattle.jx_laws.specs.Handed.{WasSent, ParcelsWereHeld}
 use Rattle.jx_laws.proofs.Basics.{unturned, nth_moment, moment_more}
 use Rattle.jx_laws.proofs.Standing.{IsCallAct, queued_at}
-use Rattle.std.specs.Option.{option_and_then}
+use Rattle.std.specs.Option.{option_and_then, option_or}
+use Rattle.jx_model.proofs.DoneReplies.{undone}
 
 -- ---- parcels of calls
 
@@ -72,7 +72,7 @@ unfolding first_since
 since_moment f [] c a h = cc
 since_moment {A} f (e ∷ past) c a h = by (first_since f past c) (is_some (call_entry past c)) refl h (since_moment f past c a)
   where
-    by : (o : Option A) (b : Bool) → first_since f past c ≡ o → (elim o as (λ _. Option A) [ Some a ↦ Some a | None ↦ elim b [ true ↦ f past e | false ↦ None ] ]) ≡ Some a →
+    by : (o : Option A) (b : Bool) → first_since f past c ≡ o → (option_or o (if b then f past e else None)) ≡ Some a →
         (first_since f past c ≡ Some a → CameBy f past a) → CameBy f (e ∷ past) a
     by (Some x) b q h again =
         let k = again (q ∙ h) in record { entry = k.entry; before = k.before; moment = moment_more e k.entry past k.before k.moment; gives = k.gives }
@@ -107,12 +107,6 @@ thrown_carries q p h = by (length q.roots == 0) h
     by true (inr h) = cc
     by false (inl h) = cc
     by false (inr h) = cc (h)
-
--- a reply behind a test that is done: the test failed
-pub undone : (b : Bool) (r : Refusal) (rest : Reply) → is_done (b refuses r else rest) ≡ true → (b ≡ false) × (is_done rest ≡ true)
-unfolding ◌refuses◌else◌ is_done
-undone true r rest h = cc
-undone false r rest h = (refl, h)
 
 -- a done return or throw sends a parcel of what its domain held
 pub back_held : (s : System) (past : Past) (d c : ℕ) (p : Parcel) → is_done (sent_back s past d c p) ≡ true → holds_all past d p ≡ true

@@ -18,7 +18,7 @@ use Rattle.jx_model.specs.Legal.{IsNext}
 use Rattle.jx_base.proofs.BasicLaws.{both}
 use Rattle.jx_base.proofs.NthEntries.{count_grows}
 use Rattle.jx_model.proofs.Acting.{acting_cases, domain_cases, running_live}
-use Rattle.jx_model.proofs.Serving.{before_end, not_ended_yet}
+use Rattle.jx_model.proofs.Serving.{before_end, not_ended_yet, not_ended}
 use Rattle.jx_laws.proofs.Basics.{clash, none_more}
 
 -- ---- who acts lives
@@ -90,19 +90,6 @@ still_open e past d r h = ap (λ (o : Option Reason). elim o as (λ _. Option Re
 pub live_stays : (e : Entry) (past : Past) (d : ℕ) → is_live past d ≡ true → reason_for (ended_by e) d ≡ None → is_live (e ∷ past) d ≡ true
 live_stays e past d h r = live_of (e ∷ past) d (made_stays e past d (live_made past d h)) (still_open e past d r (not_ended_yet past d h))
 
--- whether an entry ends the domain, by its reason
-pub unended : (x : Option (ℕ × Reason)) (d : ℕ) → reason_for x d ≡ None → ends_domain x (Some d) ≡ false
-unfolding reason_for ends_domain is_number
-unended None d h = refl
-unended (Some x) d h = by x.0 x.1 h
-  where
-    turned : (n : ℕ) (r : Reason) (b : Bool) → (n == d) ≡ b → (if b then Some r else None) ≡ None → (d == n) ≡ false
-    turned n r true q h = cc
-    turned n r false q h = grind (arith, nat_tests)
-
-    by : (n : ℕ) (r : Reason) → (if n == d then Some r else None) ≡ None → (d == n) ≡ false
-    by n r h = turned n r (n == d) refl h
-
 -- an entry that doesn't end the domain has no reason for it
 pub reasonless : (x : Option (ℕ × Reason)) (d : ℕ) → ends_domain x (Some d) ≡ false → reason_for x d ≡ None
 unfolding reason_for ends_domain is_number
@@ -121,4 +108,4 @@ pub ended_none : (past : Past) (d : ℕ) → end_reason past d ≡ None → None
 ended_none [] d h = refl
 ended_none (e ∷ past) d h =
     let x = before_end e past d h in
-    none_more (λ e. ends_domain (ended_by e) (Some d)) e past (unended (ended_by e) d x.0) (ended_none past d x.1)
+    none_more (λ e. ends_domain (ended_by e) (Some d)) e past (not_ended (ended_by e) d x.0) (ended_none past d x.1)

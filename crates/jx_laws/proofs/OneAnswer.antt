@@ -20,13 +20,14 @@ use Rattle.jx_laws.proofs.Living.{actor_live}
 use Rattle.jx_laws.proofs.CallFacts.{take_is, resume_is, answer_is, since_there, resume_at}
 use Rattle.jx_laws.proofs.Servers.{IsOf, taken_of, server_whole, server_open, server_by}
 use Rattle.jx_laws.proofs.Copies.{resume_copies}
+use Rattle.std.specs.Option.{option_or}
 
 -- ---- what came of a call stays
 
 -- what came of a call first stays the first
 pub since_kept : {A : Type 0} (f : Past → Entry → Option A) (e : Entry) (past : Past) (c : ℕ) (x : A) → first_since f past c ≡ Some x → first_since f (e ∷ past) c ≡ Some x
 unfolding first_since
-since_kept {A} f e past c x h = ap (λ (o : Option A). elim o as (λ _. Option A) [ Some a ↦ Some a | None ↦ elim (is_some (call_entry past c)) [ true ↦ f past e | false ↦ None ] ]) h
+since_kept {A} f e past c x h = ap (λ (o : Option A). option_or o (if is_some (call_entry past c) then f past e else None)) h
 
 -- that something came of a call stays so
 some_kept : {A : Type 0} (f : Past → Entry → Option A) (e : Entry) (past : Past) (c : ℕ) → is_some (first_since f past c) ≡ true → is_some (first_since f (e ∷ past) c) ≡ true

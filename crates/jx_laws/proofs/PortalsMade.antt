@@ -1,8 +1,7 @@
 -- A live domain holds a portal exactly where an entry of its own gave it one: each is to a service that was made.
-use Rattle.std.proofs.Common.{◌≡◌, refl, sym, ◌∙◌, ap, subst, ℕ, ◌+◌, ◌<◌, ◌≤◌, Bool, true, false, not, ◌&&◌, ◌||◌, List, [], ◌∷◌, ◌++◌, length, Option, Some, None, is_some, arith, ◌==◌, if◌then◌else◌, ◌⊎◌, inl, inr}
+use Rattle.std.proofs.Common.{◌≡◌, refl, sym, ◌∙◌, ap, subst, ℕ, ◌+◌, ◌<◌, Bool, true, false, ◌&&◌, ◌||◌, List, [], ◌∷◌, ◌++◌, length, Option, Some, None, is_some, arith, ◌==◌, if◌then◌else◌, ◌⊎◌, inl, inr}
 use Rattle.std.specs.Prelude.{nat_le, nat_lt, flat_map}
 use Rattle.std.specs.List.{list_any, AllByRecursion}
-use Rattle.std.specs.Str.{bytes_eq}
 use Rattle.std.proofs.lemmas.Bool.Decides.{nat_tests}
 use Rattle.jx_base.specs.declared.act.Act.{Act}
 use Rattle.jx_base.specs.declared.act.Act.TheVariants as act
@@ -20,20 +19,20 @@ use Rattle.jx_base.specs.declared.value.Word.TheVariants as word
 use Rattle.jx_base.specs.declared.program.System.{System}
 use Rattle.jx_base.specs.Basics.{contains_number, is_number, passes}
 use Rattle.program_model.specs.ParcelParts.{parcel_portals, parcel_cells, word_portal}
-use Rattle.jx_base.specs.Histories.{Past, is_own, is_done, nth_entry}
+use Rattle.jx_base.specs.Histories.{Past, is_own, nth_entry}
 use Rattle.jx_model.specs.Domains.{is_made, is_live}
 use Rattle.jx_model.specs.Portals.{is_export, exported_interface, services_made, is_exported, interface_of, received_service, received_parcel, gives_portal, keeps_portal, holds_portal, bound_service}
 use Rattle.jx_model.specs.Permits.{is_zero_act}
 use Rattle.jx_model.specs.Calls.{Answer, Asked, is_call, asked_by, asked_of, call_entry, answer_of, answered_by, answered_by_act, answer_by_reply, refused_answer, thrown, ends_server, first_since, calls_made}
 use Rattle.jx_model.specs.WellMade.{IsWellMade, IsParcelIn, IsWordIn}
-use Rattle.jx_model.specs.Replies.{reply_to, job_of, or_done, answer_reply, looked_up, portal_reply, new_service, bound, ◌refuses◌else◌}
+use Rattle.jx_model.specs.Replies.{reply_to, job_of, or_done, answer_reply, looked_up, portal_reply, new_service, ◌refuses◌else◌}
 use Rattle.jx_model.specs.Legal.{IsNext, IsAdmittedPast}
-use Rattle.jx_base.proofs.BasicLaws.{both, eq_of, ap2}
-use Rattle.jx_base.proofs.NthEntries.{nth_passes, count_new, count_grows}
-use Rattle.jx_model.proofs.Exported.{IsExported, exported_is, is_exported_at, services_grow, exported_stays, interface_made, portal_made}
+use Rattle.jx_base.proofs.BasicLaws.{both, eq_of, ap2, nothing}
+use Rattle.jx_base.proofs.NthEntries.{count_new}
+use Rattle.jx_model.proofs.Exported.{IsExported, services_grow, exported_stays, interface_made, portal_made}
 use Rattle.jx_laws.proofs.Living.{actor_live, live_made, made_stays}
 use Rattle.jx_laws.specs.Handed.{PortalsAreKept}
-use Rattle.std.specs.Option.{option_and_then}
+use Rattle.std.specs.Option.{option_and_then, option_or}
 
 -- ---- portals in parcels
 
@@ -93,10 +92,6 @@ answer_portals (Answer.Value p) = parcel_portals p
 answer_portals (Answer.Thrown p) = parcel_portals p
 answer_portals _ = []
 
-nothing : {A : Type 0} (k : ℕ) → contains_number [] k ≡ true → A
-unfolding contains_number
-nothing k h = cc
-
 refusals : (x : Refusal) → (refused_answer x ≡ Answer.Discarded) ⊎ (refused_answer x ≡ Answer.CopyFailed)
 unfolding refused_answer
 refusals refusal.Discarded = inl refl
@@ -147,7 +142,7 @@ unfolding answer_of first_since
 answer_made_of s [] c x k h q i = cc
 answer_made_of s (e ∷ past) c x k h q i = by (first_since (λ before e. answered_by before e c) past c) refl (is_some (call_entry past c)) q (answer_made_of s past c x k h.1)
   where
-    by : (o : Option Answer) → first_since (λ before e. answered_by before e c) past c ≡ o → (b : Bool) → (elim o as (λ _. Option Answer) [ Some a ↦ Some a | None ↦ elim b [ true ↦ answered_by past e c | false ↦ None ] ]) ≡ Some x →
+    by : (o : Option Answer) → first_since (λ before e. answered_by before e c) past c ≡ o → (b : Bool) → (option_or o (if b then answered_by past e c else None)) ≡ Some x →
         (first_since (λ before e. answered_by before e c) past c ≡ Some x → contains_number (answer_portals x) k ≡ true → IsExported past k) → IsExported (e ∷ past) k
     by (Some a) w b q again = exported_stays e past k (again (w ∙ q) i)
     by None w true q again = exported_stays e past k (answered_well s e past c x k h.0 q i)

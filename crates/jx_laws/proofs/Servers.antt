@@ -2,27 +2,18 @@
 use Rattle.std.proofs.Common.{◌≡◌, refl, ◌∙◌, ap, ℕ, ◌≤◌, true, [], ◌∷◌, ◌++◌, Option, Some, None, arith}
 use Rattle.std.specs.List.{list_any}
 use Rattle.jx_base.specs.declared.act.Entry.{Entry}
-use Rattle.jx_base.specs.Histories.{Past, nth_entry}
+use Rattle.jx_base.specs.Histories.{Past}
 use Rattle.jx_model.specs.Moments.{IsMoment, NonePasses}
 use Rattle.jx_model.specs.Domains.{is_live, ended_by}
-use Rattle.jx_model.specs.Portals.{is_export, export_of, owner_of}
+use Rattle.jx_model.specs.Portals.{owner_of}
 use Rattle.jx_model.specs.Calls.{is_call, calls_made, service_of_call, server_of, ends_domain, ends_server}
-use Rattle.jx_base.proofs.NthEntries.{nth_stays, count_grows}
+use Rattle.jx_base.proofs.NthEntries.{count_grows}
 use Rattle.jx_model.proofs.CallSteps.{service_made}
-use Rattle.jx_model.proofs.Serving.{Takes, is_it, not_ended_yet}
+use Rattle.jx_model.proofs.Serving.{Takes, is_it, not_ended_yet, owner_kept}
 use Rattle.jx_laws.proofs.Living.{ended_none}
-use Rattle.std.specs.Option.{option_and_then, option_map}
+use Rattle.std.specs.Option.{option_and_then}
 
 -- ---- owners and servers stay
-
--- a service keeps its owner
-pub owner_stays : (e : Entry) (past : Past) (k d : ℕ) → owner_of past k ≡ Some d → owner_of (e ∷ past) k ≡ Some d
-unfolding owner_of export_of
-owner_stays e past k d h = by (nth_entry is_export past k) refl h
-  where
-    by : (o : Option Entry) → nth_entry is_export past k ≡ o → option_map (λ x. x.domain.0) o ≡ Some d → option_map (λ x. x.domain.0) (nth_entry is_export (e ∷ past) k) ≡ Some d
-    by None q h = cc
-    by (Some x) q h = ap (option_map (λ x. x.domain.0)) (nth_stays is_export e past k x q) ∙ h
 
 -- the server of a call owns its service
 pub server_by : (past : Past) (c k d : ℕ) → service_of_call past c ≡ Some k → owner_of past k ≡ Some d → server_of past c ≡ Some d
@@ -42,7 +33,7 @@ server_parts past c d h = by (service_of_call past c) refl h
 pub server_stays : (e : Entry) (past : Past) (c d : ℕ) → c ≤ calls_made past → server_of past c ≡ Some d → server_of (e ∷ past) c ≡ Some d
 server_stays e past c d u h =
     let k = server_parts past c d h in
-    server_by (e ∷ past) c k.0 d (service_made e past c u ∙ k.1) (owner_stays e past k.0 d k.2)
+    server_by (e ∷ past) c k.0 d (service_made e past c u ∙ k.1) (owner_kept e past k.0 d k.2)
 
 -- a call that was made is made in each later past
 calls_later : (later past : Past) (c : ℕ) → c ≤ calls_made past → c ≤ calls_made (later ++ past)

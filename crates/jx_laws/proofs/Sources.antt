@@ -1,5 +1,5 @@
 -- The objects that an entry hands over: new ones, or what the taken call or the resumed answer carried.
-use Rattle.std.proofs.Common.{◌≡◌, refl, ℕ, ◌<◌, ◌≤◌, ◌+◌, ℤ, Bool, true, false, [], ◌∷◌, Option, Some, None, arith, if◌then◌else◌, inl, inr}
+use Rattle.std.proofs.Common.{◌≡◌, refl, ℕ, ◌<◌, ◌≤◌, ◌+◌, ℤ, Bool, true, false, [], ◌∷◌, Option, Some, None, arith, inl, inr}
 use Rattle.jx_base.specs.declared.act.Act.{Act}
 use Rattle.jx_base.specs.declared.act.Act.TheVariants as act
 use Rattle.jx_base.specs.declared.act.Reply.{Reply}

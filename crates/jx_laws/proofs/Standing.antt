@@ -27,9 +27,10 @@ use Rattle.jx_model.proofs.CallSteps.{answer_made}
 use Rattle.jx_laws.proofs.Basics.{none_of, within_or_above}
 use Rattle.jx_laws.proofs.Living.{live_stays, reasonless}
 use Rattle.jx_laws.proofs.CallFacts.{entry_there}
-use Rattle.jx_laws.proofs.Servers.{owner_stays, server_by, server_stays}
+use Rattle.jx_laws.proofs.Servers.{server_by, server_stays}
 use Rattle.jx_laws.proofs.OneAnswer.{answer_kept}
 use Rattle.std.specs.Option.{option_and_then, option_map}
+use Rattle.jx_model.proofs.Serving.{owner_kept}
 
 -- ---- what a queued call needed
 
@@ -125,7 +126,7 @@ new_served s past e c n h q =
     let x = queued_at s past e n h in
     let o = passed (is_live past) (owner_of past x.asks.service.0) x.goes.owner in
     has_live (e ∷ past) c o.0
-    (server_by (e ∷ past) c x.asks.service.0 o.0 (service_new e past c h q x.asks) (owner_stays e past x.asks.service.0 o.0 o.1))
+    (server_by (e ∷ past) c x.asks.service.0 o.0 (service_new e past c h q x.asks) (owner_kept e past x.asks.service.0 o.0 o.1))
     (live_stays e past o.0 o.2 (call_no_end e o.0 x.asks))
 
 -- an entry that doesn't answer a call doesn't end its server

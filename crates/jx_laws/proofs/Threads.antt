@@ -24,7 +24,7 @@ use Rattle.jx_model.specs.Replies.{reply_to, called, ◌refuses◌else◌}
 use Rattle.jx_model.specs.Legal.{IsNext, IsAdmittedPast}
 use Rattle.jx_base.proofs.BasicLaws.{both, eq_of}
 use Rattle.jx_base.proofs.NthEntries.{nth_new, nth_stays}
-use Rattle.jx_model.proofs.Acting.{where_passes}
+use Rattle.jx_model.proofs.Acting.{where_passes, chosen, of_then}
 use Rattle.jx_model.proofs.Serving.{in_domain, of_none}
 use Rattle.std.specs.Option.{option_and_then, option_map}
 
@@ -193,16 +193,6 @@ idle_serves past d (suc t) k h =
     serving_idle k x.0 (served_call past d (suc t)) (last_idle k (serving_state x.0 (served_call past d (suc t))) (last_of_thread past d (suc t)) x.1)
 
 -- ---- takes and resumes
-
--- what a test chooses
-chosen : (b : Bool) (t : ℕ) (x : Option ℕ) → (if b then x else None) ≡ Some t → (b ≡ true) × (x ≡ Some t)
-chosen true t x h = (refl, h)
-chosen false t x h = cc
-
--- what comes of a value that is there
-of_then : (o : Option ℕ) (f : ℕ → Option ℕ) (t : ℕ) → option_and_then f o ≡ Some t → (k : ℕ) × (o ≡ Some k) × (f k ≡ Some t)
-of_then None f t h = cc
-of_then (Some k) f t h = (k, refl, h)
 
 -- a take is of the first call of a queue, by a thread that serves nothing
 pub take_first : (s : System) (past : Past) (d t : ℕ) (c : CallId) → acting_thread s past d (act.Take c) ≡ Some t → (is_head past d c.0 ≡ true) × (served_call past d t ≡ None)

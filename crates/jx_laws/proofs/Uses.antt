@@ -21,7 +21,7 @@ use Rattle.jx_model.specs.Portals.{holds_portal}
 use Rattle.jx_model.specs.Calls.{Asked, Answer, is_call, asked_by, calls_made, call_entry, asked_of, answer_of, answered_by, answered_by_act, answer_by_reply, refused_answer, thrown, ends_server, is_unanswered, is_queued, is_taken, is_resumed, has_live_caller}
 use Rattle.jx_model.specs.MemoryObjects.{objects_made}
 use Rattle.jx_model.specs.Holding.{received_objects, is_drop_of, keeps_after, keeps_object, holds_object, holders, answer_objects, asked_objects, carried_by, carried, riders, riding_count, hold_count}
-use Rattle.jx_model.specs.Replies.{reply_to, sent_back, holds_all, ◌refuses◌else◌}
+use Rattle.jx_model.specs.Replies.{reply_to, sent_back, holds_all}
 use Rattle.jx_model.specs.Legal.{IsNext, IsAdmittedPast}
 use Rattle.jx_base.proofs.BasicLaws.{both, ap3}
 use Rattle.jx_base.proofs.NthEntries.{nth_new, count_new, count_same}

@@ -16,11 +16,13 @@ use Rattle.jx_model.specs.Permits.{acting_thread, is_over, zero_may_now, domains
 use Rattle.jx_base.proofs.BasicLaws.{found, none_found, passed}
 use Rattle.std.specs.Option.{option_and_then, option_map}
 
-chosen : (b : Bool) (t : ℕ) (x : Option ℕ) → (if b then x else None) ≡ Some t → (b ≡ true) × (x ≡ Some t)
+-- what a test chooses
+pub chosen : (b : Bool) (t : ℕ) (x : Option ℕ) → (if b then x else None) ≡ Some t → (b ≡ true) × (x ≡ Some t)
 chosen true t x h = (refl, h)
 chosen false t x h = cc
 
-of_then : (o : Option ℕ) (f : ℕ → Option ℕ) (t : ℕ) → option_and_then f o ≡ Some t → (k : ℕ) × (o ≡ Some k) × (f k ≡ Some t)
+-- what comes of a value that is there
+pub of_then : (o : Option ℕ) (f : ℕ → Option ℕ) (t : ℕ) → option_and_then f o ≡ Some t → (k : ℕ) × (o ≡ Some k) × (f k ≡ Some t)
 of_then None f t h = cc
 of_then (Some k) f t h = (k, refl, h)
 

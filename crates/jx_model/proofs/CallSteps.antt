@@ -1,9 +1,10 @@
 -- What an entry more changes of what came of a call.
-use Rattle.std.proofs.Common.{◌≡◌, refl, ◌∙◌, ap, ℕ, ◌<◌, ◌≤◌, Bool, true, false, ◌||◌, [], ◌∷◌, Option, Some, None, is_some, arith}
+use Rattle.std.proofs.Common.{if◌then◌else◌, ◌≡◌, refl, ◌∙◌, ap, ℕ, ◌<◌, ◌≤◌, Bool, true, false, ◌||◌, [], ◌∷◌, Option, Some, None, is_some, arith}
 use Rattle.jx_base.specs.declared.act.Entry.{Entry}
 use Rattle.jx_base.specs.Histories.{Past, nth_entry, count_where}
 use Rattle.jx_model.specs.Calls.{Answer, is_call, calls_made, call_entry, first_since, marked, answer_of, answered_by, is_taken, is_resumed, is_take_of, is_resume_of, service_of_call, asked_of}
 use Rattle.jx_base.proofs.NthEntries.{nth_old, nth_none, nth_there}
+use Rattle.std.specs.Option.{option_or}
 
 -- ---- what comes after a call
 
@@ -15,8 +16,9 @@ since_none f (e ∷ past) c h =
     rw (since_none f past c (omega (arith, h)), nth_none is_call past c (omega (arith, h))) refl
 
 after_made : {A : Type 0} (o : Option A) (b : Bool) (x : Option A) → b ≡ true →
-    (elim o as (λ _. Option A) [ Some a ↦ Some a | None ↦ elim b [ true ↦ x | false ↦ None ] ]) ≡ (elim o as (λ _. Option A) [ Some a ↦ Some a | None ↦ x ])
-after_made o true x h = refl
+    (option_or o (if b then x else None)) ≡ (elim o as (λ _. Option A) [ Some a ↦ Some a | None ↦ x ])
+after_made None true x h = refl
+after_made (Some a) true x h = refl
 after_made o false x h = cc
 
 -- a call that is made, in a past that has an entry more

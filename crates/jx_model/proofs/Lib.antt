@@ -12,3 +12,4 @@ pub mod Reasons
 pub mod SmallNumbers
 pub mod OneHistory
 pub mod Exported
+pub mod DoneReplies

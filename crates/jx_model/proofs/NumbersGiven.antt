@@ -168,7 +168,8 @@ revokes false false b4 olds x m n None q = refl
 revokes false false true olds x m n (Some part) q = refl
 revokes false false false olds x m n (Some part) q = rw q refl
 
-object_counts : (s : System) (past : Past) (d x : ℕ) (a : Act) →
+-- a reply gives the objects that its act makes the next numbers
+pub object_counts : (s : System) (past : Past) (d x : ℕ) (a : Act) →
     CountsParts (new_parts (objects_of past) x a (reply_to s past d a)) (new_object_numbers a (reply_to s past d a)) (objects_made past)
 unfolding reply_to with_object derived divided one_object allocated new_object object_part new_parts new_object_numbers
 object_counts s past d x (act.Alloc z) = allocates _ _ _ (objects_of past) x z (objects_made past)

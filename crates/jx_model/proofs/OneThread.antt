@@ -19,7 +19,7 @@ use Rattle.jx_model.specs.Threads.{service_threads, new_threads_of, new_threads,
 use Rattle.jx_model.specs.Permits.{domain_thread, zero_may_now, zero_may, is_halt}
 use Rattle.jx_model.specs.Legal.{IsNext, IsAdmittedPast}
 use Rattle.jx_model.specs.Growth.{RunsOneThread, Runs}
-use Rattle.jx_base.proofs.BasicLaws.{ap2, ap3, both, eq_of, and_false}
+use Rattle.jx_base.proofs.BasicLaws.{ap2, ap3, both, eq_of, and_false, get_left}
 use Rattle.jx_model.proofs.Acting.{acting_cases, domain_cases, acting_within, running_runs, none_runs}
 use Rattle.std.specs.Option.{option_map}
 
@@ -75,7 +75,7 @@ zero_threads s (e ∷ past) h = ap2 (λ (xs ys : List ServiceId). xs ++ ys) (zer
 -- ---- no entry is of a thread that isn't there
 
 -- an entry of a thread that isn't there before it
-stranger : (s : System) (past : Past) (e : Entry) (d t : ℕ) → IsNext s past e → length (service_threads past d) < t → is_of_thread d t e ≡ false
+pub stranger : (s : System) (past : Past) (e : Entry) (d t : ℕ) → IsNext s past e → length (service_threads past d) < t → is_of_thread d t e ≡ false
 unfolding is_of_thread is_own
 stranger s past e d t n l = by (e.domain.0 == d && (e.thread.0 == t)) refl
   where
@@ -92,11 +92,13 @@ pub record IsAbsent (past : Past) (d t : ℕ) : Type 0 where
   pub last : last_of_thread past d t ≡ None
   pub serves : served_call past d t ≡ None
 
-threads_grow : (e : Entry) (past : Past) (d : ℕ) → length (service_threads past d) ≤ length (service_threads (e ∷ past) d)
+-- a domain's threads stay
+pub threads_grow : (e : Entry) (past : Past) (d : ℕ) → length (service_threads past d) ≤ length (service_threads (e ∷ past) d)
 unfolding service_threads
 threads_grow e past d = omega (arith, length-append (service_threads past d) (new_threads_of d e))
 
-absent : (s : System) (past : Past) (d t : ℕ) → IsAdmittedPast s past → length (service_threads past d) < t → IsAbsent past d t
+-- a thread that isn't there is absent
+pub absent : (s : System) (past : Past) (d t : ℕ) → IsAdmittedPast s past → length (service_threads past d) < t → IsAbsent past d t
 unfolding last_of_thread served_call
 absent s [] d t h l = record { last = refl; serves = refl }
 absent s (e ∷ past) d t h l = by (absent s past d t h.1 before)
@@ -111,11 +113,6 @@ absent s (e ∷ past) d t h l = by (absent s past d t h.1 before)
     by i = record { last = last_same e past d t other ∙ i.last; serves = serves_same e past d t other ∙ i.serves }
 
 -- ---- what runs after another thread's entry ran before it
-
-get_left : {A : Type 0} (xs ys : List A) (i : ℕ) → i < length xs → slice_get (xs ++ ys) i ≡ slice_get xs i
-get_left [] ys i l = absurd (omega (arith, l))
-get_left (x ∷ xs) ys zero l = refl
-get_left (x ∷ xs) ys (suc i) l = get_left xs ys i (omega (arith, l))
 
 get_old : (e : Entry) (past : Past) (d i : ℕ) → i < length (service_threads past d) → slice_get (service_threads (e ∷ past) d) i ≡ slice_get (service_threads past d) i
 unfolding service_threads

@@ -27,46 +27,53 @@ use Rattle.jx_model.specs.Legal.{IsNext}
 use Rattle.jx_model.specs.Growth.{HasSameDomains, HasSameServices, HasSameBytes}
 use Rattle.jx_base.proofs.BasicLaws.{ap2, ap3, pick_false, and_true, and_false}
 use Rattle.jx_base.proofs.NthEntries.{nth_same, count_same}
-use Rattle.std.specs.Option.{option_and_then, option_map}
+use Rattle.std.specs.Option.{option_and_then, option_map, option_or}
 
 -- ---- what a refusal is no instance of
 
-no_domain : (a : Act) (r : Refusal) → makes_domain a (reply.Refused r) ≡ false
+-- it makes no domain
+pub no_domain : (a : Act) (r : Refusal) → makes_domain a (reply.Refused r) ≡ false
 unfolding makes_domain
 no_domain (act.Create t) r = refl
 no_domain (act.Spawn name) r = refl
 no_domain _ r = refl
 
-no_end : (s : System) (past : Past) (d : ℕ) (a : Act) (r : Refusal) → reply.Refused r ≡ reply_to s past d a → ended_by_act d a (reply.Refused r) ≡ None
+-- and ends none
+pub no_end : (s : System) (past : Past) (d : ℕ) (a : Act) (r : Refusal) → reply.Refused r ≡ reply_to s past d a → ended_by_act d a (reply.Refused r) ≡ None
 unfolding reply_to ended_by_act is_done
 no_end s past d (act.Exit code) r h = cc
 no_end s past d (act.End why) r h = cc
 no_end s past d (act.Kill k) r h = refl
 no_end s past d _ r h = refl
 
-no_export : (a : Act) (r : Refusal) → exported_interface a (reply.Refused r) ≡ None
+-- it makes no service
+pub no_export : (a : Act) (r : Refusal) → exported_interface a (reply.Refused r) ≡ None
 unfolding exported_interface
 no_export (act.Export iface k) r = refl
 no_export _ r = refl
 
-no_threads : (a : Act) (r : Refusal) → new_threads a (reply.Refused r) ≡ []
+-- it adds no threads
+pub no_threads : (a : Act) (r : Refusal) → new_threads a (reply.Refused r) ≡ []
 unfolding new_threads
 no_threads (act.Export iface k) r = refl
 no_threads _ r = refl
 
-no_parcel : (a : Act) (r : Refusal) → received_parcel a (reply.Refused r) ≡ None
+-- it hands over no parcel
+pub no_parcel : (a : Act) (r : Refusal) → received_parcel a (reply.Refused r) ≡ None
 unfolding received_parcel
 no_parcel (act.Take c) r = refl
 no_parcel (act.Resume c) r = refl
 no_parcel _ r = refl
 
-no_service : (a : Act) (r : Refusal) → received_service a (reply.Refused r) ≡ None
+-- nor a portal by itself
+pub no_service : (a : Act) (r : Refusal) → received_service a (reply.Refused r) ≡ None
 unfolding received_service
 no_service (act.Export iface k) r = refl
 no_service (act.Lookup name) r = refl
 no_service _ r = refl
 
-no_bind : (units : List ℕ) (a : Act) (r : Refusal) → bound_by_act units a (reply.Refused r) ≡ None
+-- it binds no name
+pub no_bind : (units : List ℕ) (a : Act) (r : Refusal) → bound_by_act units a (reply.Refused r) ≡ None
 unfolding bound_by_act is_done
 no_bind units (act.Bind name k) r = refl
 no_bind units _ r = refl
@@ -75,12 +82,14 @@ no_call : (a : Act) (r : Refusal) → (is_some (asked_by a) && is_some (queued_a
 unfolding queued_as
 no_call a r = and_false (is_some (asked_by a))
 
-no_extent : (a : Act) (r : Refusal) → makes_extent a (reply.Refused r) ≡ false
+-- it makes no extent
+pub no_extent : (a : Act) (r : Refusal) → makes_extent a (reply.Refused r) ≡ false
 unfolding makes_extent
 no_extent (act.Alloc n) r = refl
 no_extent _ r = refl
 
-no_parts : (olds : List Part) (x : ℕ) (a : Act) (r : Refusal) → new_parts olds x a (reply.Refused r) ≡ []
+-- and no objects
+pub no_parts : (olds : List Part) (x : ℕ) (a : Act) (r : Refusal) → new_parts olds x a (reply.Refused r) ≡ []
 unfolding new_parts
 no_parts olds x (act.Alloc n) r = refl
 no_parts olds x (act.Sub m at count) r = refl
@@ -88,7 +97,8 @@ no_parts olds x (act.Split m at) r = refl
 no_parts olds x (act.Revoke m) r = refl
 no_parts olds x _ r = refl
 
-no_objects : (a : Act) (r : Refusal) → received_objects a (reply.Refused r) ≡ []
+-- it hands over no objects
+pub no_objects : (a : Act) (r : Refusal) → received_objects a (reply.Refused r) ≡ []
 unfolding received_objects objects_in received_parcel
 no_objects (act.Alloc n) r = refl
 no_objects (act.Sub m at count) r = refl
@@ -106,7 +116,8 @@ no_answer c _ r h = refl
 
 -- ---- what isn't made
 
-objects_grow : (e : Entry) (past : Past) → objects_made past ≤ objects_made (e ∷ past)
+-- objects stay
+pub objects_grow : (e : Entry) (past : Past) → objects_made past ≤ objects_made (e ∷ past)
 unfolding objects_made objects_of
 objects_grow e past = omega (arith, length-append (objects_of past) (new_parts (objects_of past) (extents_made past + 1) e.act e.reply))
 
@@ -287,10 +298,10 @@ module _ (s : System) (past : Past) (e : Entry) (r : Refusal) (next : IsNext s p
   pub answer_same : (c : ℕ) → is_answer_to c e.act ≡ false → answer_of (e ∷ past) c ≡ answer_of past c
   unfolding answer_of first_since
   answer_same c h =
-      ap (λ (x : Option Answer). elim (answer_of past c) as (λ _. Option Answer) [ Some a ↦ Some a | None ↦ elim (is_some (call_entry past c)) [ true ↦ x | false ↦ None ] ]) (answered c h)
+      ap (λ (x : Option Answer). option_or (answer_of past c) (if is_some (call_entry past c) then x else None)) (answered c h)
       ∙ by (answer_of past c) (is_some (call_entry past c))
     where
-      by : (o : Option Answer) (b : Bool) → (elim o as (λ _. Option Answer) [ Some a ↦ Some a | None ↦ elim b [ true ↦ None | false ↦ None ] ]) ≡ o
+      by : (o : Option Answer) (b : Bool) → (option_or o (if b then None else None)) ≡ o
       by (Some a) b = refl
       by None true = refl
       by None false = refl

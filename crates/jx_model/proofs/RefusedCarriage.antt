@@ -29,7 +29,7 @@ use Rattle.jx_model.proofs.Growing.{moment, before_admitted}
 use Rattle.jx_model.proofs.RefusedThreads.{answers, idles, no_result, no_job, same_state, throws_live}
 use Rattle.jx_model.proofs.Refusals.{answer_same, asked_same, allocation_same, call_same, caller_same, calls_same, extents_same, holds_same, live_same, objects_same, same_bytes, same_domains, same_services, valid_same}
 use Rattle.jx_model.proofs.Serving.{not_ended_yet, returns_it, served, throws_it, unanswered}
-use Rattle.std.specs.Option.{option_map, unwrap_or}
+use Rattle.std.specs.Option.{option_map, option_or, unwrap_or}
 
 -- an answer of a refusal carries nothing
 refused_carries : (r : Refusal) → answer_objects (Some (refused_answer r)) ≡ []
@@ -75,7 +75,7 @@ module _ (s : System) (past : Past) (e : Entry) (r : Refusal) (next : IsNext s p
   mark_same p c h = by (first_since (λ before x. marked (p x)) past c) (is_some (call_entry past c)) (p e) h
     where
       by : (o : Option (Unit {0})) (b x : Bool) → x ≡ false →
-          is_some (elim o as (λ _. Option (Unit {0})) [ Some a ↦ Some a | None ↦ elim b as (λ _. Option (Unit {0})) [ true ↦ marked x | false ↦ None ] ]) ≡ is_some o
+          is_some (option_or o (if b then marked x else None)) ≡ is_some o
       by (Some a) b x q = refl
       by None false x q = refl
       by None true x q = ap (λ (y : Bool). is_some (marked y)) q

@@ -26,7 +26,7 @@ use Rattle.jx_model.specs.Legal.{IsNext, IsAdmittedPast}
 use Rattle.jx_base.proofs.BasicLaws.{both, eq_of}
 use Rattle.jx_base.proofs.NthEntries.{nth_old, nth_passes, count_grows}
 use Rattle.jx_model.proofs.CallSteps.{answer_made, service_made, taken_made}
-use Rattle.jx_model.proofs.Acting.{acting_cases}
+use Rattle.jx_model.proofs.Acting.{acting_cases, chosen, of_then}
 use Rattle.std.specs.Option.{option_and_then, option_map}
 
 -- an act that Domain Zero may not perform
@@ -50,10 +50,6 @@ filter_one p q x xs true false h i again = rw i again
 filter_twice : (p q : ℕ → Bool) (xs : List ℕ) → filter (λ x. p x && q x) xs ≡ filter q (filter p xs)
 filter_twice p q [] = refl
 filter_twice p q (x ∷ xs) = filter_one p q x xs (p x) (q x) refl refl (filter_twice p q xs)
-
-chosen : (b : Bool) (t : ℕ) (x : Option ℕ) → (if b then x else None) ≡ Some t → (b ≡ true) × (x ≡ Some t)
-chosen true t x h = (refl, h)
-chosen false t x h = cc
 
 -- ---- a take
 
@@ -85,10 +81,6 @@ pub of_none : (o : Option ℕ) (b : Bool) (t : ℕ) (x : Option ℕ) → (elim o
 of_none None true t x h = (refl, refl, h)
 of_none None false t x h = cc
 of_none (Some r) b t x h = cc
-
-of_then : (o : Option ℕ) (f : ℕ → Option ℕ) (t : ℕ) → option_and_then f o ≡ Some t → (s : ℕ) × (o ≡ Some s) × (f s ≡ Some t)
-of_then None f t h = cc
-of_then (Some s) f t h = (s, refl, h)
 
 pub takes : (s : System) (past : Past) (d t : ℕ) (c : CallId) → acting_thread s past d (act.Take c) ≡ Some t → Takes past d c.0
 unfolding is_halt zero_may domain_thread may_perform is_zero_act is_choice choice_thread taking_thread is_head server_of queue_head queued_calls waiting_calls up_to
@@ -265,7 +257,8 @@ returns_it s past d t c p h =
 
 -- ---- the owner of what a thread serves
 
-owner_kept : (e : Entry) (past : Past) (s d : ℕ) → owner_of past s ≡ Some d → owner_of (e ∷ past) s ≡ Some d
+-- a service keeps its owner
+pub owner_kept : (e : Entry) (past : Past) (s d : ℕ) → owner_of past s ≡ Some d → owner_of (e ∷ past) s ≡ Some d
 unfolding owner_of export_of
 owner_kept e past s d h = by (nth_entry is_export past s) refl h
   where
@@ -304,7 +297,8 @@ answers_if : {A : Type 0} (b : Bool) (x y : A) → (if b then Some x else None) 
 answers_if true x y h = refl
 answers_if false x y h = cc
 
-answers_act : (n : ℕ) (a : Act) (r : Reply) (x : Answer) → answered_by_act n a r ≡ Some x → Answers a n
+-- the act of an answer
+pub answers_act : (n : ℕ) (a : Act) (r : Reply) (x : Answer) → answered_by_act n a r ≡ Some x → Answers a n
 unfolding answered_by_act
 answers_act n (act.Return k p) r x h = record { call = k; parcel = p; is = eq_of k.0 n (answers_if (k.0 == n) (answer_by_reply r (Answer.Value p)) x h); by = inl refl }
 answers_act n (act.Throw k p) r x h = record { call = k; parcel = p; is = eq_of k.0 n (answers_if (k.0 == n) (answer_by_reply r (thrown p)) x h); by = inr refl }
@@ -351,7 +345,7 @@ before_end e past d h = by (reason_for (ended_by e) d) (end_reason past d) h
     by (Some r) p h = cc
 
 -- an entry that doesn't end the owner
-not_ended : (x : Option (ℕ × Reason)) (d : ℕ) → reason_for x d ≡ None → ends_domain x (Some d) ≡ false
+pub not_ended : (x : Option (ℕ × Reason)) (d : ℕ) → reason_for x d ≡ None → ends_domain x (Some d) ≡ false
 unfolding reason_for ends_domain is_number
 not_ended None d h = refl
 not_ended (Some x) d h = by x.0 x.1 h

@@ -19,7 +19,7 @@ use Rattle.jx_base.specs.Basics.{passes, up_to, is_number}
 use Rattle.jx_base.specs.Histories.{Past, nth_entry, count_where}
 use Rattle.jx_model.specs.Domains.{is_live, ended_by}
 use Rattle.jx_model.specs.Portals.{owner_of}
-use Rattle.std.specs.Option.{option_and_then, option_map}
+use Rattle.std.specs.Option.{option_and_then, option_map, option_or}
 
 -- ---- what was asked
 
@@ -89,11 +89,12 @@ unfoldable pub is_resume_of : ℕ → Act → Bool
 is_resume_of c (act.Resume k) = k.0 == c
 is_resume_of c _ = false
 
--- the first that f gives of the entries after the call, each with what came before it
+-- the first that f gives of the entries after the call, each with what came before it: one found earlier
+-- stands, or else the newest entry may give one, if the call was there
 unfoldable pub first_since : {A : Type 0} → (Past → Entry → Option A) → Past → ℕ → Option A
 first_since f [] c = None
 first_since f (e ∷ past) c =
-    elim (first_since f past c) [ Some a ↦ Some a | None ↦ elim (is_some (call_entry past c)) [ true ↦ f past e | false ↦ None ] ]
+    option_or (first_since f past c) (if is_some (call_entry past c) then f past e else None)
 
 -- a mark, where the test passes
 unfoldable pub marked : Bool → Option (Unit {0})

@@ -1,4 +1,5 @@
--- The threads of a domain, and what each one does.
+-- The threads of a domain, and what each one does: that is told by the call that it serves, and by whether
+-- its last own entry made it stop.
 use Rattle.std.specs.Prelude.{ℕ, zero, suc, ◌+◌, Bool, true, false, ◌&&◌, List, [], ◌∷◌, ◌++◌, length, replicate, Option, Some, None, ◌==◌, if◌then◌else◌, find, slice_get}
 use Rattle.std.specs.List.{range_with_len}
 use Rattle.jx_base.specs.declared.act.Act.{Act}
@@ -62,7 +63,7 @@ unfoldable pub state_by_last : ThreadState → Option Entry → ThreadState
 state_by_last runs None = runs
 state_by_last runs (Some e) = state_after runs e.act e.reply
 
--- what a service thread does where its last entry didn't make it stop
+-- what a service thread does where its last entry didn't make it stop: it serves its call, or is idle
 unfoldable pub serving_state : ServiceId → Option CallId → ThreadState
 serving_state s None = thread.Idle s
 serving_state s (Some c) = thread.Serving c
@@ -71,7 +72,8 @@ serving_state s (Some c) = thread.Serving c
 unfoldable pub last_of_thread : Past → ℕ → ℕ → Option Entry
 last_of_thread past d t = find (is_of_thread d t) past
 
--- the state of a thread, where the domain has it
+-- the state of a thread, where the domain has it. Thread 0 runs until its last entry makes it stop, and so
+-- does a service thread, which else serves its call or is idle
 unfoldable pub thread_state : Past → ℕ → ℕ → Option ThreadState
 thread_state past d zero = Some (state_by_last thread.Running (last_of_thread past d 0))
 thread_state past d (suc t) =

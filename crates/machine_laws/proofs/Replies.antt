@@ -39,7 +39,8 @@ use Rattle.machine_laws.specs.Sound.{IsSound}
 use Rattle.machine_laws.proofs.EntryValues.{loosen}
 use Rattle.machine_laws.proofs.NumericValues.{then_some}
 use Rattle.machine_laws.proofs.Natives.{class_fits_string, string_type}
-use Rattle.std.specs.Option.{option_and_then, option_map}
+use Rattle.std.specs.Option.{option_and_then, option_map, option_or}
+use Rattle.jx_model.proofs.DoneReplies.{undone}
 
 -- ---- what fits a domain
 
@@ -144,7 +145,7 @@ unfolding first_since
 since_moment f [] c a h = cc
 since_moment f (x ∷ past) c a h = by (first_since f past c) (is_some (call_entry past c)) refl h (since_moment f past c a)
   where
-    by : (o : Option Answer) (b : Bool) → first_since f past c ≡ o → (elim o as (λ _. Option Answer) [ Some a ↦ Some a | None ↦ elim b as (λ _. Option Answer) [ true ↦ f past x | false ↦ None ] ]) ≡ Some a →
+    by : (o : Option Answer) (b : Bool) → first_since f past c ≡ o → (option_or o (if b then f past x else None)) ≡ Some a →
         (first_since f past c ≡ Some a → IsSince f past a) → IsSince f (x ∷ past) a
     by (Some y) b q h again = let r = again (q ∙ h) in record { entry = r.entry; before = r.before; is = (x ∷ r.is.0, ap (λ (xs : Past). x ∷ xs) r.is.1); gives = r.gives }
     by None true q h again = record { entry = x; before = past; is = ([], refl); gives = h }
@@ -156,11 +157,6 @@ unqueued : (b : Bool) (r : Refusal) (rest : Reply) → is_some (queued_as (b ref
 unfolding ◌refuses◌else◌ queued_as
 unqueued false r rest h = (refl, h)
 unqueued true r rest h = cc
-
-undone : (b : Bool) (r : Refusal) (rest : Reply) → is_done (b refuses r else rest) ≡ true → (b ≡ false) × (is_done rest ≡ true)
-unfolding ◌refuses◌else◌ is_done
-undone false r rest h = (refl, h)
-undone true r rest h = cc
 
 not_false : (b : Bool) → not b ≡ false → b ≡ true
 not_false true h = refl

@@ -17,9 +17,10 @@ use Rattle.jx_model.specs.Legal.{IsAdmittedPast}
 use Rattle.jx_base.proofs.BasicLaws.{ap2}
 use Rattle.jx_base.proofs.NthEntries.{nth_new, nth_old, count_grows}
 use Rattle.table_threads.proofs.Records.{map_range, not_that, is_that}
-use Rattle.table_threads.proofs.CallActs.{entry}
+use Rattle.table_threads.specs.CallChanges.{entry}
 use Rattle.table_objects.proofs.Parts.{part_extent}
 use Rattle.std.specs.Option.{option_map, unwrap_or}
+use Rattle.table_extents.specs.ExtentChanges.{writes, written}
 
 -- ---- sizes
 
@@ -34,13 +35,6 @@ unfolding extent_size allocation_of
 size_new e past b = ap (λ (o : Option Entry). unwrap_or (option_map (λ e. allocated_bytes e.act) o) 0) (nth_new is_allocation e past (extents_made past + 1) b refl)
 
 -- ---- acts that write nothing
-
--- whether the act writes bytes
-abbrev pub writes : Act → Bool
-writes (act.Set m at width v) = true
-writes (act.Fill m at count b) = true
-writes (act.Copy m at k k_at count) = true
-writes _ = false
 
 unwritten : (objects : List Part) (a : Act) (before : ℕ → ℕ → ℕ) (x i : ℕ) → writes a ≡ false → byte_after objects a before x i ≡ before x i
 unfolding byte_after
@@ -67,11 +61,6 @@ bytes_same e past x u h =
     ∙ map_range (byte_at (e ∷ past) x) (byte_at past x) 0 (extent_size past x) (λ i l v. byte_same e past x i h)
 
 -- ---- a part that is written
-
--- a list of bytes, its first at that place, with so many of them from there written
-abbrev pub written : ℕ → ℕ → ℕ → (ℕ → ℕ) → List ℕ → List ℕ
-written k from count f [] = []
-written k from count f (b ∷ bytes) = cond (nat_le from k && nat_lt k (from + count)) (f (k - from)) b ∷ written (k + 1) from count f bytes
 
 -- bytes that are new where they are written and old elsewhere
 pub written_map : (old new f : ℕ → ℕ) (from count a n : ℕ) →

@@ -23,12 +23,13 @@ use Rattle.jx_base.proofs.NthEntries.{count_new, count_same}
 use Rattle.table_threads.proofs.Records.{records_same, records_more, records_set, records_get}
 use Rattle.table_threads.proofs.Actors.{live_made}
 use Rattle.table_threads.proofs.CallStages.{live_after}
-use Rattle.table_objects.proofs.Holders.{drops_object}
+use Rattle.table_objects.specs.HolderChanges.{drops_object}
 use Rattle.table_objects.proofs.Parts.{part_new, part_made, valid_new}
 use Rattle.table_objects.proofs.UsedBefore.{ByDomain}
 use Rattle.table_objects.proofs.ExtentsInUse.{in_use, in_use_before}
 use Rattle.table_extents.proofs.Granules.{Owner, HeapOf, ExtentOf, is_owner_used, run_old, ThatHeap, ThatRun, granules_same, granules_taken}
-use Rattle.table_extents.proofs.ByteRecords.{writes, bytes_same, bytes_new}
+use Rattle.table_extents.specs.ExtentChanges.{writes}
+use Rattle.table_extents.proofs.ByteRecords.{bytes_same, bytes_new}
 use Rattle.table_extents.proofs.FreeingEntries.{stays_in_use, new_held}
 
 -- ---- one extent

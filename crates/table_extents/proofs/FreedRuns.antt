@@ -1,5 +1,5 @@
 -- The granules after an entry that frees some, and the service of what a thread serves.
-use Rattle.std.proofs.Common.{◌≡◌, refl, sym, ◌∙◌, ap, ℕ, Bool, true, false, not, ◌&&◌, ◌||◌, List, ◌∷◌, ◌++◌, map, arith, filter_map}
+use Rattle.std.proofs.Common.{◌≡◌, refl, sym, ◌∙◌, ap, ℕ, Bool, true, false, not, ◌&&◌, ◌||◌, ◌∷◌, map, arith, filter_map}
 use Rattle.std.specs.List.{range_with_len, list_any}
 use Rattle.jx_base.specs.declared.act.Entry.{Entry}
 use Rattle.jx_base.specs.declared.program.System.{System}
@@ -9,7 +9,7 @@ use Rattle.jx_base.specs.Histories.{Past}
 use Rattle.jx_model.specs.Domains.{is_live, is_birth, domains_made}
 use Rattle.jx_model.specs.MemoryObjects.{extents_made, is_allocation}
 use Rattle.jx_model.specs.Holding.{is_extent_in_use}
-use Rattle.jx_model.specs.Granules.{Run, run_if, heap_run, extent_run, lies_in, lies_in_one, is_used_granule}
+use Rattle.jx_model.specs.Granules.{run_if, heap_run, extent_run, lies_in, lies_in_one, is_used_granule}
 use Rattle.jx_model.specs.Tables.{granule_flags}
 use Rattle.jx_model.specs.Legal.{IsAdmittedPast}
 use Rattle.jx_base.proofs.BasicLaws.{ap2, both}
@@ -17,22 +17,9 @@ use Rattle.table_threads.proofs.Records.{any_append, any_at, any_found}
 use Rattle.table_threads.proofs.Actors.{live_made}
 use Rattle.table_objects.proofs.ExtentsInUse.{in_use_made}
 use Rattle.table_extents.proofs.Granules.{Owner, HeapOf, ExtentOf, is_owner_used, Holds, any_run, granules_freed}
+use Rattle.table_extents.specs.ExtentChanges.{is_heap_freed, is_extent_freed, freed_runs}
 
 -- ---- freed granules
-
--- whether an entry ends the use of a heap
-abbrev pub is_heap_freed : Entry → Past → ℕ → Bool
-is_heap_freed e past d = is_live past d && not (is_live (e ∷ past) d)
-
--- whether an entry ends the use of an extent
-abbrev pub is_extent_freed : Entry → Past → ℕ → Bool
-is_extent_freed e past x = is_extent_in_use past x && not (is_extent_in_use (e ∷ past) x)
-
--- the runs of what an entry frees
-abbrev pub freed_runs : System → Entry → Past → List Run
-freed_runs s e past =
-    filter_map (run_if (is_heap_freed e past) (heap_run s past)) (up_to (domains_made past))
-    ++ filter_map (run_if (is_extent_freed e past) (extent_run past)) (up_to (extents_made past))
 
 both_true : (x y : Bool) → x ≡ true → y ≡ true → (x && y) ≡ true
 both_true x y p q = rw (p, q) refl

@@ -1,7 +1,6 @@
 -- Only a done release and the end of a domain free an extent.
 use Rattle.std.proofs.Common.{◌≡◌, ◌≢◌, refl, sym, ◌∙◌, ap, ℕ, suc, zero, ◌+◌, ◌-◌, ◌<◌, ◌≤◌, Bool, true, false, not, ◌&&◌, ◌||◌, List, [], ◌∷◌, Option, Some, None, is_some, arith, ◌==◌, if◌then◌else◌, ◌⊎◌, inl, inr, slice_get, length-append}
 use Rattle.std.specs.Prelude.{nat_le}
-use Rattle.std.proofs.lemmas.Bool.Decides.{nat_tests}
 use Rattle.jx_base.specs.declared.act.Act.{Act}
 use Rattle.jx_base.specs.declared.act.Act.TheVariants as act
 use Rattle.jx_base.specs.declared.act.Reply.{Reply}
@@ -23,7 +22,7 @@ use Rattle.jx_base.specs.declared.states.CallState.TheVariants as call
 use Rattle.jx_model.specs.Permits.{acting_thread, is_halt, zero_may}
 use Rattle.jx_model.specs.Replies.{reply_to, job_of, or_done, answer_reply, with_object, one_object, divided, given_or, ◌refuses◌else◌}
 use Rattle.jx_model.specs.Legal.{IsNext, IsAdmittedPast}
-use Rattle.jx_base.proofs.BasicLaws.{ap2, ap3, both, eq_of}
+use Rattle.jx_base.proofs.BasicLaws.{ap2, ap3, both, eq_of, at_most, beyond}
 use Rattle.jx_model.proofs.CallSteps.{answer_made, resumed_made, asked_made}
 use Rattle.jx_model.proofs.Serving.{take_at}
 use Rattle.table_threads.proofs.CallRecords.{unqueues, queued_made}
@@ -31,7 +30,9 @@ use Rattle.table_threads.proofs.CallActs.{caller_lives_on, running_not_queued}
 use Rattle.table_threads.proofs.CallStages.{returns_running, throws_running}
 use Rattle.table_threads.proofs.Records.{or_false, is_that, not_that}
 use Rattle.table_threads.proofs.Actors.{live_made, acts_live}
-use Rattle.table_objects.proofs.Holders.{holds_step, gives_object, drops_object, objects_grow}
+use Rattle.table_objects.proofs.Holders.{holds_step}
+use Rattle.jx_model.proofs.Refusals.{objects_grow}
+use Rattle.table_objects.specs.HolderChanges.{gives_object, drops_object}
 use Rattle.table_objects.proofs.Parts.{PartSource, NewExtent, OfObject, part_old, part_new, part_made, part_source, valid_old, valid_new, valid_same, with_done}
 use Rattle.table_objects.proofs.UsedBefore.{Use, ByDomain, ByCall}
 use Rattle.table_objects.proofs.GivenObjects.{new_numbers}
@@ -40,12 +41,6 @@ use Rattle.table_objects.proofs.ExtentsInUse.{IsUsedBy, used_by, in_use, holder_
 use Rattle.std.specs.Option.{option_and_then}
 
 -- ---- an object's line lies on its extent
-
-at_most : (x y : ℕ) → nat_le x y ≡ true → x ≤ y
-at_most x y q = grind (arith, nat_tests)
-
-beyond : (x y : ℕ) → nat_le x y ≡ false → y < x
-beyond x y q = grind (arith, nat_tests)
 
 -- an object is derived from an older one on the same extent
 pub record HasOlderParent (past : Past) (m : ℕ) (o : Part) : Type 0 where

@@ -24,7 +24,7 @@ use Rattle.jx_model.specs.Granules.{Run, run_if, heap_run, heap_runs, heap_granu
 use Rattle.jx_model.specs.Replies.{reply_to, new_object, new_domain, spawned, allocated, given_or, ◌refuses◌else◌}
 use Rattle.jx_model.specs.Tables.{granule_flags}
 use Rattle.jx_model.specs.Legal.{IsNext, IsAdmittedPast}
-use Rattle.jx_base.proofs.BasicLaws.{ap2, both}
+use Rattle.jx_base.proofs.BasicLaws.{ap2, both, at_most, beyond}
 use Rattle.jx_base.proofs.NthEntries.{nth_new, nth_old, count_new, count_same}
 use Rattle.table_threads.proofs.Records.{same_or_not, any_append, any_at, any_found, map_range}
 use Rattle.table_threads.proofs.Actors.{IsMade, live_made}
@@ -235,12 +235,6 @@ pub data WasOwner (s : System) (e : Entry) (past : Past) (o : Owner) : Type 0 wh
   NewHeap : is_birth e ≡ true → o ≡ HeapOf (domains_made past + 1) → WasOwner s e past o
   NewRun : is_allocation e ≡ true → o ≡ ExtentOf (extents_made past + 1) → WasOwner s e past o
 
-within : (x y : ℕ) → nat_le x y ≡ true → x ≤ y
-within x y q = grind (arith, nat_tests)
-
-beyond : (x y : ℕ) → nat_le x y ≡ false → y < x
-beyond x y q = grind (arith, nat_tests)
-
 -- the heap of a domain that was made before
 pub heap_old : (s : System) (e : Entry) (past : Past) (d : ℕ) → d ≤ domains_made past → heap_run s (e ∷ past) d ≡ heap_run s past d
 unfolding heap_run heap_place_of template_of birth_of
@@ -260,7 +254,7 @@ owner_was s e past (HeapOf d) a h = by (nat_le d (domains_made past)) refl (is_b
 
     by : (x : Bool) → nat_le d (domains_made past) ≡ x → (b : Bool) → is_birth e ≡ b → WasOwner s e past (HeapOf d)
     by true q b z =
-        let u = within d (domains_made past) q in
+        let u = at_most d (domains_made past) q in
         Old (both (is_live past d) (not (ends_domain (ended_by e) (Some d))) (sym (live_after e past d (record { low = m.low; high = u })) ∙ h)).0 (heap_old s e past d u)
     by false q true z = let l = beyond d (domains_made past) q in NewHeap z (ap HeapOf (omega (arith, l, m.high, count_new is_birth e past z)))
     by false q false z = let l = beyond d (domains_made past) q in absurd (omega (arith, l, m.high, count_same is_birth e past z))
@@ -270,7 +264,7 @@ owner_was s e past (ExtentOf x) a h = by (nat_le x (extents_made past)) refl (is
     m = in_use_made s (e ∷ past) x a h
 
     by : (y : Bool) → nat_le x (extents_made past) ≡ y → (b : Bool) → is_allocation e ≡ b → WasOwner s e past (ExtentOf x)
-    by true q b z = let u = within x (extents_made past) q in Old (in_use_before s e past x a u h) (run_old e past x u)
+    by true q b z = let u = at_most x (extents_made past) q in Old (in_use_before s e past x a u h) (run_old e past x u)
     by false q true z = let l = beyond x (extents_made past) q in NewRun z (ap ExtentOf (omega (arith, l, m.1, count_new is_allocation e past z)))
     by false q false z = let l = beyond x (extents_made past) q in absurd (omega (arith, l, m.1, count_same is_allocation e past z))
 

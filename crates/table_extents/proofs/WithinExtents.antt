@@ -16,9 +16,9 @@ use Rattle.jx_model.specs.Bytes.{byte_at}
 use Rattle.jx_model.specs.Replies.{reply_to, derived, divided, is_within, is_positive_up_to}
 use Rattle.jx_model.specs.Tables.{extent_size, extent_bytes}
 use Rattle.jx_model.specs.Legal.{IsNext, IsAdmittedPast}
-use Rattle.jx_base.proofs.BasicLaws.{ap2, both}
+use Rattle.jx_base.proofs.BasicLaws.{ap2, both, turned}
 use Rattle.table_threads.proofs.Records.{get_range}
-use Rattle.table_objects.proofs.UsedBefore.{undone, turned}
+use Rattle.jx_model.proofs.DoneReplies.{undone}
 use Rattle.table_objects.proofs.Parts.{part_old, part_new, part_made, part_extent}
 use Rattle.table_extents.proofs.FreeingEntries.{with_part}
 use Rattle.table_extents.proofs.ByteRecords.{size_old, size_new}

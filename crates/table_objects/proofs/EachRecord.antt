@@ -1,5 +1,5 @@
 -- The services' and the objects' records after any entry, each from its record before.
-use Rattle.std.proofs.Common.{◌≡◌, refl, sym, ◌∙◌, ap, ℕ, ◌+◌, ◌≤◌, Bool, false, not, ◌&&◌, List, ◌∷◌, ◌++◌, map, replicate, None, arith, append-nil}
+use Rattle.std.proofs.Common.{◌≡◌, sym, ◌∙◌, ap, ℕ, ◌+◌, ◌≤◌, Bool, false, List, ◌∷◌, ◌++◌, map, replicate, None, arith, append-nil}
 use Rattle.std.specs.List.{range_with_len}
 use Rattle.jx_base.specs.declared.act.Entry.{Entry}
 use Rattle.jx_base.specs.declared.program.System.{System}
@@ -7,23 +7,22 @@ use Rattle.jx_base.specs.Basics.{up_to}
 use Rattle.jx_base.specs.Histories.{Past}
 use Rattle.jx_model.specs.Domains.{ended_by}
 use Rattle.jx_model.specs.Portals.{is_export, services_made}
-use Rattle.jx_model.specs.MemoryObjects.{Part, objects_of, objects_made, ends_one_of, lineage_of}
-use Rattle.jx_model.specs.Tables.{ServiceRecord, service_record, service_records, portal_flags, ObjectRecord, object_record, object_records, CallRecord, call_records}
+use Rattle.jx_model.specs.MemoryObjects.{objects_of, objects_made}
+use Rattle.jx_model.specs.Tables.{ServiceRecord, service_record, service_records, portal_flags, ObjectRecord, object_record, object_records, call_records}
 use Rattle.jx_model.specs.Legal.{IsNext, IsAdmittedPast}
 use Rattle.jx_base.proofs.BasicLaws.{ap2, ap3}
 use Rattle.jx_model.proofs.Exported.{services_grow}
-use Rattle.table_threads.proofs.Records.{records_same, each_record, each_map}
-use Rattle.table_objects.proofs.Holders.{held_after, flags_every}
+use Rattle.table_threads.proofs.Records.{records_same, each_map}
+use Rattle.table_threads.specs.Changes.{each_record}
+use Rattle.table_objects.specs.HolderChanges.{portals_after}
+use Rattle.table_objects.proofs.Holders.{flags_every}
 use Rattle.table_objects.proofs.Parts.{valid_old}
-use Rattle.table_objects.proofs.Riding.{count_of, carries, riding_by_records}
-use Rattle.table_objects.proofs.ObjectRecords.{objects_split, objects_new, parts_made, new_object_record}
-use Rattle.table_objects.proofs.ServiceRecords.{portal_after, portals_every, services_changed}
+use Rattle.table_objects.specs.ObjectChanges.{new_object_record, object_record_after}
+use Rattle.table_objects.proofs.Riding.{riding_by_records}
+use Rattle.table_objects.proofs.ObjectRecords.{objects_split, objects_new, parts_made}
+use Rattle.table_objects.proofs.ServiceRecords.{portals_every, services_changed}
 
 -- ---- portals
-
--- who holds a portal after an entry, from who held it before
-abbrev pub portals_after : Entry → ℕ → List Bool → List Bool
-portals_after e k before = each_record (portal_after e k) before
 
 -- the services' records after any entry that makes no service
 pub services_every : (s : System) (e : Entry) (past : Past) → IsNext s past e → is_export e ≡ false →
@@ -36,19 +35,6 @@ services_every s e past n x =
     ∙ sym (each_map (λ k (item : ServiceRecord). record item { holders = portals_after e k item.holders }) (service_record s past) 1 (services_made past))
 
 -- ---- objects
-
--- who holds an object after an entry, from who held it before
-abbrev pub holders_after : Entry → ℕ → List Bool → List Bool
-holders_after e m before = each_record (held_after e m) before
-
--- an old object's record after an entry, from its record, the parts and the new records of the calls
-abbrev pub object_record_after : Entry → List Part → List CallRecord → ℕ → ObjectRecord → ObjectRecord
-object_record_after e parts calls m item =
-    record {
-      valid = item.valid && not (ends_one_of (lineage_of parts m) e);
-      holders = holders_after e m item.holders;
-      riding = count_of (carries m) calls;
-    }
 
 -- an old object's record after any entry
 pub object_record_every : (s : System) (e : Entry) (past : Past) (m : ℕ) → IsNext s past e → m ≤ objects_made past →

@@ -12,7 +12,7 @@ use Rattle.jx_model.specs.Calls.{calls_made}
 use Rattle.jx_model.specs.MemoryObjects.{Part, objects_made, object_part, extents_made, is_valid}
 use Rattle.jx_model.specs.Holding.{keeps_object, holds_object, holders, carried, riders, riding_count, hold_count, is_of_extent, is_extent_in_use}
 use Rattle.jx_model.specs.Legal.{IsAdmittedPast}
-use Rattle.jx_base.proofs.BasicLaws.{both, eq_of, passed}
+use Rattle.jx_base.proofs.BasicLaws.{both, eq_of, passed, at_most, beyond}
 use Rattle.table_threads.proofs.Records.{any_at, any_found, is_that}
 use Rattle.table_threads.proofs.Actors.{live_made}
 use Rattle.table_objects.proofs.Holders.{holder_is, contains_kept}
@@ -41,12 +41,6 @@ some_number n h = grind (arith, nat_tests)
 is_some_number : (n : ℕ) → nat_lt 0 n ≡ true → 1 ≤ n
 is_some_number n h = grind (arith, nat_tests)
 
-within : (x y : ℕ) → nat_le x y ≡ true → x ≤ y
-within x y q = grind (arith, nat_tests)
-
-beyond : (x y : ℕ) → nat_le x y ≡ false → y < x
-beyond x y q = grind (arith, nat_tests)
-
 -- who holds an object is live
 pub holder_lives : (past : Past) (d m : ℕ) → holds_object past d m ≡ true → is_live past d ≡ true
 unfolding holds_object
@@ -65,7 +59,7 @@ carrier_made past c m h = (low c refl, high (nat_le c (calls_made past)) refl)
     low (suc n) q = omega arith
 
     high : (b : Bool) → nat_le c (calls_made past) ≡ b → c ≤ calls_made past
-    high true q = within c (calls_made past) q
+    high true q = at_most c (calls_made past) q
     high false q = none (inr (beyond c (calls_made past) q))
 
 -- what is held or carried counts
@@ -143,7 +137,7 @@ in_use_before s e past x a l h = by (used_by (e ∷ past) x h)
 
         old : (b : Bool) → nat_le u.0 (objects_made past) ≡ b → is_extent_in_use past x ≡ true
         old true q =
-            let v = within u.0 (objects_made past) q in
+            let v = at_most u.0 (objects_made past) q in
             in_use past x u.0 (record { part = u.1.part; is = sym (part_old e past u.0 v) ∙ u.1.is; extent = u.1.extent; valid = valid_before e past u.0 v u.1.valid; used = use_before s e past u.0 a v u.1.used })
         old false q =
             let v = beyond u.0 (objects_made past) q in

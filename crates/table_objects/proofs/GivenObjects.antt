@@ -21,7 +21,7 @@ use Rattle.jx_model.specs.Holding.{received_objects, objects_in, asked_objects, 
 use Rattle.jx_model.specs.Replies.{reply_to, job_of, or_done, answer_reply}
 use Rattle.jx_model.specs.Growth.{numbers_given, new_object_numbers}
 use Rattle.jx_model.specs.Legal.{IsAdmittedPast}
-use Rattle.jx_base.proofs.BasicLaws.{up_to_append, eq_of}
+use Rattle.jx_base.proofs.BasicLaws.{up_to_append, eq_of, nothing}
 use Rattle.jx_model.proofs.NumbersGiven.{numbers_once}
 use Rattle.std.specs.Option.{option_and_then}
 
@@ -58,10 +58,6 @@ pub data Source (past : Past) (m : ℕ) (a : Act) : Type 0 where
   Fresh : objects_made past < m → Source past m a
   FromCall : (c : CallId) → a ≡ act.Take c → contains_number (asked_objects (asked_of past c.0)) m ≡ true → Source past m a
   FromAnswer : (c : CallId) → a ≡ act.Resume c → contains_number (answer_objects (answer_of past c.0)) m ≡ true → Source past m a
-
-nothing : {A : Type 0} (m : ℕ) → contains_number [] m ≡ true → A
-unfolding contains_number
-nothing m h = cc
 
 job_gives : (o : Option Asked) (k : ℕ) (p : Parcel) → (s : ServiceId) (n : MethodId) → reply.Job s n p ≡ job_of o → contains_number (parcel_objects p) k ≡ true → contains_number (asked_objects o) k ≡ true
 unfolding job_of asked_objects

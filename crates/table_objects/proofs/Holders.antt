@@ -1,33 +1,29 @@
 -- Which domains hold an object after an entry more.
-use Rattle.std.proofs.Common.{◌≡◌, ◌≢◌, refl, sym, ◌∙◌, ap, ℕ, suc, zero, ◌+◌, ◌<◌, ◌≤◌, Bool, true, false, not, cond, ◌&&◌, ◌||◌, List, [], ◌∷◌, ◌++◌, Option, Some, None, map, arith, ◌==◌, if◌then◌else◌, ◌⊎◌, inl, inr, filter, length-append, append-nil}
+use Rattle.std.proofs.Common.{◌≡◌, ◌≢◌, refl, sym, ◌∙◌, ap, ℕ, suc, zero, ◌+◌, ◌<◌, ◌≤◌, Bool, true, false, not, cond, ◌&&◌, ◌||◌, List, ◌∷◌, Option, Some, None, arith, ◌==◌, if◌then◌else◌, ◌⊎◌, inl, inr, filter}
 use Rattle.std.specs.Prelude.{nat_le}
 use Rattle.std.specs.List.{range_with_len}
 use Rattle.std.proofs.lemmas.Bool.Decides.{nat_tests}
 use Rattle.jx_base.specs.declared.act.Reason.{Reason}
 use Rattle.jx_base.specs.declared.act.Entry.{Entry}
 use Rattle.jx_base.specs.declared.program.System.{System}
-use Rattle.jx_base.specs.Basics.{up_to, contains_number, is_number}
+use Rattle.jx_base.specs.Basics.{up_to, contains_number}
 use Rattle.program_model.specs.Limits.{domain_limit}
 use Rattle.jx_base.specs.Histories.{Past, is_done, is_own}
-use Rattle.jx_model.specs.Domains.{is_made, is_live, is_birth, domains_made, ended_by}
+use Rattle.jx_model.specs.Domains.{is_made, is_live, domains_made, ended_by}
 use Rattle.jx_model.specs.Calls.{ends_domain}
-use Rattle.jx_model.specs.MemoryObjects.{objects_of, objects_made, new_parts, extents_made}
+use Rattle.jx_model.specs.MemoryObjects.{objects_made}
 use Rattle.jx_model.specs.Holding.{received_objects, is_drop_of, keeps_after, keeps_object, holds_object, holders}
 use Rattle.jx_model.specs.Tables.{holder_flags}
 use Rattle.jx_model.specs.Legal.{IsNext}
-use Rattle.jx_base.proofs.BasicLaws.{ap2, ap3, eq_of, and_true, and_false}
-use Rattle.jx_base.proofs.NthEntries.{count_new, count_same}
-use Rattle.jx_model.proofs.Refusals.{keeps_guarded}
-use Rattle.table_threads.proofs.Records.{not_that, is_that, same_or_not, map_range, each_record, each_map}
+use Rattle.jx_base.proofs.BasicLaws.{ap2, ap3, eq_of, and_false, at_most, beyond}
+use Rattle.jx_model.proofs.Refusals.{keeps_guarded, objects_grow}
+use Rattle.table_threads.proofs.Records.{not_that, is_that, same_or_not, map_range, each_map}
+use Rattle.table_threads.specs.Changes.{each_record}
 use Rattle.table_threads.proofs.Actors.{IsMade, made_is, is_made_at, made_stays, unmade_acts, actor_live}
 use Rattle.table_threads.proofs.CallStages.{live_after}
+use Rattle.table_objects.specs.HolderChanges.{gives_object, drops_object, held_after}
 
 -- ---- what is made
-
--- objects stay
-pub objects_grow : (e : Entry) (past : Past) → objects_made past ≤ objects_made (e ∷ past)
-unfolding objects_made objects_of
-objects_grow e past = omega (arith, length-append (objects_of past) (new_parts (objects_of past) (extents_made past + 1) e.act e.reply))
 
 above : (a b : ℕ) → b < a → nat_le a b ≡ false
 above a b l = grind (arith, nat_tests)
@@ -73,14 +69,6 @@ unfolding keeps_object
 keeps_step e past d m q h = ap2 (λ (x y : Bool). x && y && keeps_after d m e (keeps_object past d m)) (is_made_at (e ∷ past) d q) (within m (objects_made (e ∷ past)) h)
 
 -- ---- one domain and one object
-
--- whether an entry gives m to d
-abbrev pub gives_object : Entry → ℕ → ℕ → Bool
-gives_object e d m = is_own d e && contains_number (received_objects e.act e.reply) m
-
--- whether an entry takes m from d
-abbrev pub drops_object : Entry → ℕ → ℕ → Bool
-drops_object e d m = is_own d e && is_done e.reply && is_drop_of m e.act
 
 -- whether a domain that was made before holds an object after an entry
 pub holds_step : (e : Entry) (past : Past) (d m : ℕ) → IsMade past d → m ≤ objects_made (e ∷ past) →
@@ -150,22 +138,12 @@ holder_is past d m h = contains_kept (λ d. holds_object past d m) 1 (domains_ma
 
 -- ---- the flags of an object's holders
 
-pub at_most : (x y : ℕ) → nat_le x y ≡ true → x ≤ y
-at_most x y q = grind (arith, nat_tests)
-
-pub beyond : (x y : ℕ) → nat_le x y ≡ false → y < x
-beyond x y q = grind (arith, nat_tests)
-
 pub own_lives : (s : System) (past : Past) (e : Entry) (d : ℕ) → IsNext s past e → 1 ≤ d → (e.domain.0 == d) ≡ true → is_live past d ≡ true
 own_lives s past e d n l q = by (actor_live s past e n)
   where
     by : (e.domain.0 ≡ 0) ⊎ (is_live past e.domain.0 ≡ true) → is_live past d ≡ true
     by (inl x) = absurd (omega (arith, x, l, eq_of e.domain.0 d q))
     by (inr x) = ap (is_live past) (sym (eq_of e.domain.0 d q)) ∙ x
-
--- whether a domain holds an object after an entry, from whether it did
-abbrev pub held_after : Entry → ℕ → ℕ → Bool → Bool
-held_after e m d held = not (ends_domain (ended_by e) (Some d)) && (gives_object e d m || (not (drops_object e d m) && held))
 
 -- whether any domain number holds an old object after an entry
 pub holds_every : (s : System) (e : Entry) (past : Past) (d m : ℕ) → IsNext s past e → 1 ≤ d → m ≤ objects_made past → holds_object (e ∷ past) d m ≡ held_after e m d (holds_object past d m)
@@ -211,7 +189,3 @@ unfolding up_to ends_domain
 flags_same s e past m n h z g r =
     map_range (λ d. holds_object (e ∷ past) d m) (λ d. holds_object past d m) 1 (domain_limit s) (λ d l u.
     holds_every s e past d m n l h ∙ ap3 (λ (x : Option (ℕ × Reason)) (p q : Bool). not (ends_domain x (Some d)) && (p || (not q && holds_object past d m))) z (g d) (r d))
-
--- the flags of one domain alone
-abbrev pub only_flag : System → ℕ → List Bool
-only_flag s d = map (λ k. d == k) (up_to (domain_limit s))

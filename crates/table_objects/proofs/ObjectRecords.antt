@@ -1,5 +1,5 @@
 -- The records of the memory objects after an entry more.
-use Rattle.std.proofs.Common.{◌≡◌, ◌≢◌, refl, sym, ◌∙◌, ap, ℕ, suc, zero, ◌+◌, ◌<◌, ◌≤◌, Bool, true, false, not, cond, ◌&&◌, ◌||◌, List, [], ◌∷◌, ◌++◌, length, map, replicate, Option, Some, None, arith, ◌==◌, if◌then◌else◌, ◌⊎◌, inl, inr, filter, length-append, append-nil}
+use Rattle.std.proofs.Common.{◌≡◌, ◌≢◌, refl, sym, ◌∙◌, ap, ℕ, suc, zero, ◌+◌, ◌<◌, ◌≤◌, Bool, true, false, not, ◌&&◌, ◌||◌, List, [], ◌∷◌, ◌++◌, length, map, replicate, Option, Some, None, arith, ◌==◌, if◌then◌else◌, ◌⊎◌, inl, inr, length-append, append-nil}
 use Rattle.std.specs.Prelude.{nat_le}
 use Rattle.std.specs.List.{range_with_len}
 use Rattle.std.proofs.lemmas.List.{map-append}
@@ -13,21 +13,22 @@ use Rattle.jx_base.specs.declared.program.System.{System}
 use Rattle.jx_base.specs.Basics.{up_to, contains_number}
 use Rattle.program_model.specs.Limits.{domain_limit}
 use Rattle.jx_base.specs.Histories.{Past, is_done, is_own}
-use Rattle.jx_model.specs.Domains.{is_live, is_birth, domains_made, ended_by}
+use Rattle.jx_model.specs.Domains.{is_live, domains_made, ended_by}
 use Rattle.jx_model.specs.Calls.{ends_domain}
 use Rattle.jx_model.specs.MemoryObjects.{Part, objects_of, objects_made, new_parts, extents_made, is_valid, ended_object, ends_one_of, lineage_of}
 use Rattle.jx_model.specs.Holding.{received_objects, holds_object}
 use Rattle.jx_model.specs.Growth.{new_object_numbers}
 use Rattle.jx_model.specs.Tables.{ObjectRecord, object_record, object_records, call_records}
 use Rattle.jx_model.specs.Legal.{IsNext, IsAdmittedPast}
-use Rattle.jx_base.proofs.BasicLaws.{ap2, ap3, up_to_append, eq_of, and_false}
+use Rattle.jx_base.proofs.BasicLaws.{ap2, ap3, up_to_append, and_false, at_most, beyond}
 use Rattle.table_threads.proofs.Records.{records_same, map_range, not_that, is_that, same_or_not}
-use Rattle.jx_base.proofs.NthEntries.{count_same}
 use Rattle.table_threads.proofs.Actors.{unmade_acts}
 use Rattle.table_objects.proofs.GivenObjects.{new_numbers}
-use Rattle.table_objects.proofs.Holders.{holds_step, keeps_none, newborn_holds, flags_same, only_flag, own_lives, at_most, beyond, gives_object, drops_object, objects_grow}
+use Rattle.table_objects.proofs.Holders.{holds_step, keeps_none, newborn_holds, flags_same, own_lives}
+use Rattle.table_objects.specs.HolderChanges.{gives_object, drops_object}
 use Rattle.table_objects.proofs.Parts.{valid_new, valid_old, valid_same}
 use Rattle.table_objects.proofs.Riding.{riding_new, riding_same}
+use Rattle.table_objects.specs.ObjectChanges.{new_object_record}
 
 -- ---- the records of old and new objects
 
@@ -42,10 +43,6 @@ objects_split s e past =
     ap (λ (n : ℕ). map (object_record s (e ∷ past)) (up_to n)) (length-append (objects_of past) (new_parts (objects_of past) (extents_made past + 1) e.act e.reply))
     ∙ ap (map (object_record s (e ∷ past))) (up_to_append (objects_made past) (parts_made e past))
     ∙ map-append (object_record s (e ∷ past)) (up_to (objects_made past)) _
-
--- the record of an object that domain d just made
-abbrev pub new_object_record : System → ℕ → ObjectRecord
-new_object_record s d = record { valid = true; holders = only_flag s d; riding = 0 }
 
 -- a number of a range is in it
 pub contains_range : (a n m : ℕ) → a ≤ m → m < a + n → contains_number (range_with_len a n) m ≡ true

@@ -1,5 +1,5 @@
 -- The parts that memory objects are, and which objects are valid, after an entry more.
-use Rattle.std.proofs.Common.{◌≡◌, refl, sym, ◌∙◌, ap, subst, ℕ, suc, zero, ◌+◌, ◌-◌, ◌<◌, ◌≤◌, Bool, true, false, not, ◌&&◌, List, [], ◌∷◌, ◌++◌, length, Option, Some, None, arith, if◌then◌else◌, ◌⊎◌, inl, inr, slice_get}
+use Rattle.std.proofs.Common.{◌≡◌, refl, sym, ◌∙◌, ap, subst, ℕ, suc, zero, ◌+◌, ◌-◌, ◌<◌, ◌≤◌, Bool, true, false, not, ◌&&◌, List, [], ◌∷◌, length, Option, Some, None, arith, if◌then◌else◌, ◌⊎◌, inl, inr, slice_get}
 use Rattle.std.specs.Prelude.{nat_le}
 use Rattle.std.proofs.lemmas.Bool.Decides.{nat_tests}
 use Rattle.jx_base.specs.declared.act.Act.{Act}
@@ -13,12 +13,11 @@ use Rattle.jx_base.specs.Basics.{numbered, contains_number, not_below_zero, pass
 use Rattle.jx_base.specs.Histories.{Past, is_done}
 use Rattle.jx_model.specs.MemoryObjects.{Part, part_within, sides_at, made_of, new_parts, objects_of, objects_made, object_part, extents_made, is_allocation, makes_extent, is_valid, ends_one_of, ended_object, lineage_of}
 use Rattle.jx_model.specs.Holding.{holds_object}
-use Rattle.jx_model.specs.Replies.{reply_to, with_object, ◌refuses◌else◌}
+use Rattle.jx_model.specs.Replies.{reply_to, with_object}
 use Rattle.jx_model.specs.Legal.{IsNext, IsAdmittedPast}
-use Rattle.jx_base.proofs.BasicLaws.{ap2, and_true}
+use Rattle.jx_base.proofs.BasicLaws.{ap2, and_true, get_left, get_right, turned}
 use Rattle.jx_base.proofs.NthEntries.{count_new, count_grows}
-use Rattle.table_threads.proofs.Records.{get_left, get_right}
-use Rattle.table_objects.proofs.UsedBefore.{undone, turned}
+use Rattle.jx_model.proofs.DoneReplies.{undone}
 
 -- ---- parts
 

@@ -14,20 +14,14 @@ use Rattle.jx_model.specs.Holding.{holds_object, keeps_object, carried, riders, 
 use Rattle.jx_model.specs.Tables.{CallRecord, call_record, call_records}
 use Rattle.jx_model.specs.Legal.{IsAdmittedPast}
 use Rattle.table_threads.proofs.Records.{one_if, filter_none}
-use Rattle.table_objects.proofs.Holders.{keeps_none, objects_grow}
+use Rattle.table_objects.proofs.Holders.{keeps_none}
+use Rattle.jx_model.proofs.Refusals.{objects_grow}
 use Rattle.table_objects.proofs.UsedBefore.{Use, ByDomain, ByCall, carried_use}
 use Rattle.table_objects.proofs.ExtentsInUse.{carrier_made}
 use Rattle.jx_base.proofs.BasicLaws.{both}
+use Rattle.table_objects.specs.ObjectChanges.{carries, count_of}
 
 -- ---- by the records of the calls
-
--- whether a call's record carries the object
-abbrev pub carries : ℕ → CallRecord → Bool
-carries m item = contains_number item.carried m
-
--- how many items pass
-abbrev pub count_of : {A : Type 0} → (A → Bool) → List A → ℕ
-count_of p xs = length (filter p xs)
 
 count_map : {A B : Type 0} (p : B → Bool) (f : A → B) (xs : List A) → count_of p (map f xs) ≡ count_of (λ x. p (f x)) xs
 count_map p f [] = refl

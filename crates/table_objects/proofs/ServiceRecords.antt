@@ -1,34 +1,35 @@
 -- The records of the services, and the names, after an entry more.
-use Rattle.std.proofs.Common.{◌≡◌, refl, sym, ◌∙◌, ap, subst, ℕ, ◌+◌, ◌<◌, ◌≤◌, Bool, true, false, not, cond, ◌&&◌, ◌||◌, List, [], ◌∷◌, ◌++◌, map, Option, Some, None, is_some, arith, ◌==◌, if◌then◌else◌, ◌⊎◌, inl, inr, filter, append-nil}
+use Rattle.std.proofs.Common.{◌≡◌, refl, sym, ◌∙◌, ap, subst, ℕ, ◌+◌, ◌<◌, ◌≤◌, Bool, true, false, not, ◌&&◌, ◌||◌, List, [], ◌∷◌, ◌++◌, map, Option, Some, None, is_some, arith, ◌==◌, if◌then◌else◌}
 use Rattle.std.specs.Prelude.{nat_le}
-use Rattle.std.specs.List.{range_with_len}
 use Rattle.std.specs.Str.{bytes_eq}
 use Rattle.jx_base.specs.declared.act.Act.{Act}
 use Rattle.jx_base.specs.declared.act.Act.TheVariants as act
 use Rattle.jx_base.specs.declared.act.Reply.{Reply}
 use Rattle.jx_base.specs.declared.act.Reason.{Reason}
-use Rattle.jx_base.specs.declared.ids.ClassId.{ClassId}
 use Rattle.jx_base.specs.declared.act.Entry.{Entry}
 use Rattle.jx_base.specs.declared.program.System.{System}
-use Rattle.jx_base.specs.Basics.{up_to, passes, is_number}
+use Rattle.jx_base.specs.Basics.{up_to}
 use Rattle.program_model.specs.Limits.{domain_limit}
 use Rattle.jx_base.specs.Histories.{Past, is_own, is_done, nth_entry}
 use Rattle.jx_model.specs.Domains.{is_made, is_live, domains_made, ended_by}
-use Rattle.jx_model.specs.Portals.{is_export, exported_interface, is_exported, keeps_portal, services_made, export_of, owner_of, interface_of, has_live_owner, gives_portal, holds_portal, bound_by_act, last_bound, bound_service}
+use Rattle.jx_model.specs.Portals.{is_export, exported_interface, is_exported, keeps_portal, services_made, export_of, owner_of, interface_of, gives_portal, holds_portal, bound_by_act, last_bound}
 use Rattle.jx_model.specs.Calls.{ends_domain}
 use Rattle.jx_model.specs.Tables.{ServiceRecord, service_record, service_records, portal_flags}
 use Rattle.jx_model.specs.Permits.{zero_may, is_halt}
 use Rattle.jx_model.specs.Replies.{reply_to, bound}
 use Rattle.jx_model.specs.Legal.{IsNext, IsAdmittedPast}
-use Rattle.jx_base.proofs.BasicLaws.{ap2, ap3, both, eq_of, and_true, and_false}
-use Rattle.jx_base.proofs.NthEntries.{nth_new, nth_old, count_new, count_same, count_grows}
-use Rattle.table_threads.proofs.Records.{map_range, records_same, records_more, each_record, each_map}
+use Rattle.jx_base.proofs.BasicLaws.{ap2, ap3, both, and_false, at_most, beyond, turned}
+use Rattle.jx_base.proofs.NthEntries.{nth_new, nth_old, count_new, count_same}
+use Rattle.table_threads.proofs.Records.{map_range, records_same, records_more, each_map}
+use Rattle.table_threads.specs.Changes.{each_record}
 use Rattle.table_threads.proofs.Actors.{IsMade, made_is, is_made_at, live_made, made_stays, unmade_acts, acts_live}
 use Rattle.table_threads.proofs.CallStages.{live_after}
-use Rattle.table_objects.proofs.Holders.{own_lives, at_most, beyond, only_flag}
-use Rattle.table_objects.proofs.UsedBefore.{undone, turned}
+use Rattle.table_objects.proofs.Holders.{own_lives}
+use Rattle.table_objects.specs.HolderChanges.{portal_after}
+use Rattle.jx_model.proofs.DoneReplies.{undone}
 use Rattle.jx_model.proofs.Exported.{IsExported, is_exported_at, exported_stays, services_grow, portal_made, held_made}
 use Rattle.std.specs.Option.{option_and_then, option_map, unwrap_or}
+use Rattle.table_objects.specs.ObjectChanges.{new_service_record}
 
 -- ---- who holds a portal
 
@@ -65,10 +66,6 @@ newborn_portals s e past d k n h =
   where
     by : (x y : Bool) → (x && (y && false)) ≡ false
     by x y = ap (λ (b : Bool). x && b) (and_false y) ∙ and_false x
-
--- whether a domain holds a portal after an entry, from whether it did
-abbrev pub portal_after : Entry → ℕ → ℕ → Bool → Bool
-portal_after e k d held = not (ends_domain (ended_by e) (Some d)) && ((is_own d e && gives_portal k e) || held)
 
 -- whether any domain number holds a portal after an entry
 pub portal_every : (s : System) (e : Entry) (past : Past) (d k : ℕ) → IsNext s past e → 1 ≤ d → IsExported (e ∷ past) k → holds_portal (e ∷ past) d k ≡ portal_after e k d (holds_portal past d k)
@@ -121,10 +118,6 @@ unfolding service_record owner_of interface_of export_of
 service_record_old s e past k u =
     ap (λ (o : Option Entry). let item : ServiceRecord = record { owner = unwrap_or (option_map (λ e. e.domain.0) o) 0; interface = option_and_then (λ e. exported_interface e.act e.reply) o; holders = portal_flags s (e ∷ past) k } in item)
     (nth_old is_export e past k (λ q. omega (arith, q, u)))
-
--- the record of a service that domain d just exported
-abbrev pub new_service_record : System → ℕ → Option ClassId → ServiceRecord
-new_service_record s d iface = record { owner = d; interface = iface; holders = only_flag s d }
 
 -- the record of a service that an entry makes
 pub service_record_new : (s : System) (e : Entry) (past : Past) → IsNext s past e → is_export e ≡ true → gives_portal (services_made past + 1) e ≡ true → ended_by e ≡ None →

@@ -7,7 +7,6 @@ use Rattle.jx_base.specs.declared.act.Act.{Act}
 use Rattle.jx_base.specs.declared.act.Act.TheVariants as act
 use Rattle.jx_base.specs.declared.act.Reply.{Reply}
 use Rattle.jx_base.specs.declared.act.Reply.TheVariants as reply
-use Rattle.jx_base.specs.declared.act.Refusal.{Refusal}
 use Rattle.jx_base.specs.declared.act.Refusal.TheVariants as refusal
 use Rattle.jx_base.specs.declared.act.Entry.{Entry}
 use Rattle.jx_base.specs.declared.ids.MethodId.{MethodId}
@@ -26,28 +25,26 @@ use Rattle.jx_model.specs.MemoryObjects.{objects_made}
 use Rattle.jx_model.specs.Holding.{received_objects, is_drop_of, keeps_after, keeps_object, holds_object, carried, carried_by, asked_objects, answer_objects}
 use Rattle.jx_model.specs.Tables.{CallRecord, call_record}
 use Rattle.jx_model.specs.Permits.{acting_thread}
-use Rattle.jx_model.specs.Replies.{reply_to, sent_back, called, holds_all, ◌refuses◌else◌}
+use Rattle.jx_model.specs.Replies.{reply_to, sent_back, called, holds_all}
 use Rattle.jx_model.specs.Legal.{IsNext, IsAdmittedPast}
-use Rattle.jx_base.proofs.BasicLaws.{both, eq_of}
+use Rattle.jx_base.proofs.BasicLaws.{both, eq_of, turned, nothing}
 use Rattle.jx_base.proofs.NthEntries.{nth_none, nth_passes, count_new, count_same}
 use Rattle.jx_model.proofs.Serving.{take_at, not_ended_yet, before_end}
 use Rattle.table_threads.proofs.Records.{same_or_not}
 use Rattle.table_threads.proofs.Actors.{live_made, live_by_reason}
 use Rattle.table_threads.proofs.CallStages.{resumes}
-use Rattle.table_objects.proofs.Holders.{keeps_step, keeps_made, objects_grow}
+use Rattle.table_objects.proofs.Holders.{keeps_step, keeps_made}
+use Rattle.jx_model.proofs.Refusals.{objects_grow}
 use Rattle.table_objects.proofs.GivenObjects.{Source, Fresh, FromCall, FromAnswer, source}
 use Rattle.table_threads.proofs.CallRecords.{carried_after, carried_made, call_record_new}
 use Rattle.table_threads.proofs.CallActs.{caller_lived}
 use Rattle.std.specs.Option.{option_map}
+use Rattle.jx_model.proofs.DoneReplies.{undone}
 
 -- a domain holds the object, or a call carries it
 pub data Use (past : Past) (m : ℕ) : Type 0 where
   ByDomain : (d : ℕ) → holds_object past d m ≡ true → Use past m
   ByCall : (c : ℕ) → contains_number (carried past c) m ≡ true → Use past m
-
-nothing : {A : Type 0} (m : ℕ) → contains_number [] m ≡ true → A
-unfolding contains_number
-nothing m h = cc
 
 -- ---- what an entry hands over
 
@@ -121,17 +118,6 @@ each p (x ∷ xs) m h i = by (x == m) refl i (each p xs m (both (p x) (list_all 
 pub all_held : (past : Past) (d : ℕ) (p : Parcel) (m : ℕ) → holds_all past d p ≡ true → contains_number (parcel_objects p) m ≡ true → Use past m
 unfolding holds_all
 all_held past d p m h i = ByDomain d (each (holds_object past d) (parcel_objects p) m (both _ (list_all (holds_object past d) (parcel_objects p)) h).1 i)
-
--- a reply behind a test that isn't refused
-pub undone : (b : Bool) (r : Refusal) (rest : Reply) → is_done (b refuses r else rest) ≡ true → (b ≡ false) × (is_done rest ≡ true)
-unfolding ◌refuses◌else◌ is_done
-undone true r rest h = cc
-undone false r rest h = (refl, h)
-
--- a test that its negation refused passes
-pub turned : (b : Bool) → not b ≡ false → b ≡ true
-turned true h = refl
-turned false h = cc
 
 -- a done return or throw sends what its actor held
 pub sent_held : (s : System) (past : Past) (d c : ℕ) (p : Parcel) (m : ℕ) → is_done (sent_back s past d c p) ≡ true → contains_number (parcel_objects p) m ≡ true → Use past m

@@ -1,5 +1,5 @@
 -- The thread in which an act may come, read off the records.
-use Rattle.std.proofs.Common.{◌≡◌, refl, sym, ◌∙◌, ap, ℕ, suc, zero, ◌+◌, ◌≤◌, Bool, true, false, not, ◌&&◌, ◌||◌, List, [], ◌∷◌, length, map, Option, Some, None, arith, ◌==◌, if◌then◌else◌, ◌⊎◌, inl, inr, slice_get, ◌<◌, is_some, is_none}
+use Rattle.std.proofs.Common.{◌≡◌, refl, sym, ◌∙◌, ap, ℕ, suc, zero, ◌+◌, ◌≤◌, Bool, true, false, ◌&&◌, ◌||◌, List, [], ◌∷◌, length, map, Option, Some, None, arith, ◌==◌, if◌then◌else◌, ◌⊎◌, inl, inr, slice_get, ◌<◌, is_some}
 use Rattle.std.specs.Prelude.{nat_le, nat_lt}
 use Rattle.std.specs.List.{range_with_len}
 use Rattle.std.proofs.lemmas.Bool.Decides.{nat_tests}
@@ -7,7 +7,6 @@ use Rattle.std.proofs.lemmas.List.FromFn.{length-map-range_with_len}
 use Rattle.jx_base.specs.declared.act.Act.{Act}
 use Rattle.jx_base.specs.declared.act.Act.TheVariants as act
 use Rattle.jx_base.specs.declared.act.Entry.{Entry}
-use Rattle.jx_base.specs.declared.states.DomainState.{DomainState}
 use Rattle.jx_base.specs.declared.states.ThreadState.{ThreadState}
 use Rattle.jx_base.specs.declared.program.System.{System}
 use Rattle.jx_base.specs.Basics.{up_to, numbered, passes, is_number}
@@ -17,15 +16,15 @@ use Rattle.jx_model.specs.Domains.{is_live}
 use Rattle.jx_model.specs.Threads.{service_threads, thread_state, thread_where, threads_of, running_thread}
 use Rattle.jx_model.specs.Portals.{owner_of, services_made, export_of, is_export}
 use Rattle.jx_model.specs.Calls.{calls_made, service_of_call, server_of, queue_head, waiting_calls, asked_of, asked_by, call_entry}
-use Rattle.jx_model.specs.Permits.{domain_thread, may_perform, choice_thread, taking_thread, resuming_thread, going_thread, idle_thread, is_idle_for, is_waiting_for, is_yielded, is_serving, is_head, is_zero_act, is_choice, is_over, is_ending, creates_made, is_create_entry, acting_thread, zero_may, zero_may_now, domains_wait, is_halt, next_boot, boot_templates, first_alive}
+use Rattle.jx_model.specs.Permits.{domain_thread, may_perform, choice_thread, taking_thread, resuming_thread, going_thread, idle_thread, is_idle_for, is_waiting_for, is_yielded, is_serving, is_head, is_over, is_ending, creates_made, is_create_entry, acting_thread, zero_may, zero_may_now, domains_wait, is_halt, next_boot, boot_templates, first_alive}
 use Rattle.program_model.specs.Limits.{journal_limit, entry_limit}
 use Rattle.jx_model.specs.Tables.{domain_records, ThreadRecord, thread_record, thread_records, CallRecord, call_record, call_records, ServiceRecord, service_record, service_records}
-use Rattle.jx_base.proofs.BasicLaws.{ap2, ap3}
+use Rattle.jx_base.proofs.BasicLaws.{ap2, ap3, at_most, beyond}
 use Rattle.jx_base.proofs.NthEntries.{nth_passes, nth_there, nth_none}
-use Rattle.table_threads.proofs.Records.{get_range, some_of}
+use Rattle.table_threads.proofs.Records.{get_range, some_of, numbered_record, no_record}
 use Rattle.table_threads.proofs.CallActs.{call_service_there}
-use Rattle.table_reads.proofs.ChoiceReads.{lives_in, thread_in, running_in, resumable_in, head_in, lives_by_records, thread_by_records, running_by_records, resumable_by_records, head_by_records, state_by_record, unmade_entry}
-use Rattle.table_threads.proofs.Records.{numbered_record, no_record}
+use Rattle.table_reads.specs.TableReads.{lives_in, thread_in, head_in, owner_in, performs_by, choice_thread_by, domain_thread_by, zero_by, acting_by}
+use Rattle.table_reads.proofs.ChoiceReads.{lives_by_records, thread_by_records, running_by_records, resumable_by_records, head_by_records, state_by_record, unmade_entry}
 use Rattle.std.specs.Option.{option_and_then, option_map, unwrap_or}
 
 -- ---- counters
@@ -51,14 +50,6 @@ get_none : {A : Type 0} (xs : List A) (i : ℕ) → length xs ≤ i → slice_ge
 get_none [] i l = refl
 get_none (x ∷ xs) zero l = absurd (omega (arith, l))
 get_none (x ∷ xs) (suc i) l = get_none xs i (omega (arith, l))
-
--- what the test of an order says
-pub at_most : (x y : ℕ) → nat_le x y ≡ true → x ≤ y
-at_most x y q = grind (arith, nat_tests)
-
--- and what its failure says
-pub beyond : (x y : ℕ) → nat_le x y ≡ false → y < x
-beyond x y q = grind (arith, nat_tests)
 
 no_state : (past : Past) (d t : ℕ) → length (service_threads past d) < t → thread_state past d t ≡ None
 unfolding thread_state
@@ -124,36 +115,12 @@ owner_by_records s past k =
 
 -- ---- the thread of an act
 
--- whether a running thread may perform the act, by the records
-abbrev pub performs_by : List ThreadRecord → ℕ → Act → Bool
-performs_by items t (act.Return c p) = passes (is_serving c.0) (option_map (λ item. item.state) (slice_get items t))
-performs_by items t (act.Throw c p) = passes (is_serving c.0) (option_map (λ item. item.state) (slice_get items t))
-performs_by items t (act.EndThread c) = t == 0
-performs_by items t a = not (is_zero_act a) && not (is_choice a)
-
 -- the records say whether it may
 pub performs_by_records : (past : Past) (d t : ℕ) (a : Act) → may_perform past d t a ≡ performs_by (thread_records past d) t a
 unfolding may_perform
 performs_by_records past d t (act.Return c p) = ap (passes (is_serving c.0)) (state_by_records past d t)
 performs_by_records past d t (act.Throw c p) = ap (passes (is_serving c.0)) (state_by_records past d t)
 performs_by_records past d t _ = refl
-
--- the service of a call, and its owner, by the records
-abbrev pub service_in : List CallRecord → ℕ → Option ℕ
-service_in calls c = option_map (λ item. item.service) (numbered calls c)
-
--- the owner of a service, by the records
-abbrev pub owner_in : List ServiceRecord → ℕ → Option ℕ
-owner_in services k = option_map (λ item. item.owner) (numbered services k)
-
--- the thread that a choice lets run, by the records
-abbrev pub choice_thread_by : List DomainState → List ThreadRecord → List ServiceRecord → List CallRecord → List ℕ → ℕ → Act → Option ℕ
-choice_thread_by domains threads services calls waiting d (act.Take c) =
-    if is_number (option_and_then (owner_in services) (service_in calls c.0)) d && is_number (option_and_then (head_in calls waiting) (service_in calls c.0)) c.0
-    then option_and_then (λ k. thread_in threads (is_idle_for k)) (service_in calls c.0) else None
-choice_thread_by domains threads services calls waiting d (act.Resume c) = if resumable_in domains calls c.0 then thread_in threads (is_waiting_for c.0) else None
-choice_thread_by domains threads services calls waiting d (act.Go t) = if passes is_yielded (option_map (λ item. item.state) (slice_get threads t.0)) then Some t.0 else None
-choice_thread_by domains threads services calls waiting d _ = None
 
 then_same : (o : Option ℕ) (f g : ℕ → Option ℕ) → ((k : ℕ) → f k ≡ g k) → option_and_then f o ≡ option_and_then g o
 then_same None f g h = refl
@@ -172,14 +139,6 @@ choice_thread_by_records s past d (act.Take c) =
 choice_thread_by_records s past d (act.Resume c) = ap2 (λ (b : Bool) (o : Option ℕ). if b then o else None) (resumable_by_records s past c.0) (thread_by_records past d (is_waiting_for c.0))
 choice_thread_by_records s past d (act.Go t) = ap (λ (o : Option ThreadState). if passes is_yielded o then Some t.0 else None) (state_by_records past d t.0)
 choice_thread_by_records s past d _ = refl
-
--- the thread of a domain's act, by the records
-abbrev pub domain_thread_by : List DomainState → List ThreadRecord → List ServiceRecord → List CallRecord → List ℕ → ℕ → Act → Option ℕ
-domain_thread_by domains threads services calls waiting d a =
-    elim (running_in domains threads d) [
-      | Some t ↦ if performs_by threads t a then Some t else None
-      | None ↦ if lives_in domains d then choice_thread_by domains threads services calls waiting d a else None
-    ]
 
 -- the records say in which thread a domain's act may come
 pub domain_thread_by_records : (s : System) (past : Past) (d : ℕ) (a : Act) →
@@ -203,26 +162,11 @@ domain_thread_by_records s past d a =
 
 -- ---- the thread of any act
 
--- whether Domain Zero may perform the act, by the next boot template and the first domain that can act
-abbrev pub zero_by : Option ℕ → Option ℕ → Act → Bool
-zero_by boot alive (act.Create t) = is_number boot t
-zero_by boot alive act.Quiet = is_none boot && is_none alive
-zero_by boot alive _ = false
-
 zero_is : (s : System) (past : Past) (a : Act) → zero_may s past a ≡ zero_by (next_boot s past) (first_alive past) a
 unfolding zero_may
 zero_is s past (act.Create t) = refl
 zero_is s past act.Quiet = refl
 zero_is s past _ = refl
-
--- the thread of an act, by whether the run is over, the words of the journal, the creates, the first domain that can act, and the thread of the domain's act
-abbrev pub acting_by : System → Bool → ℕ → ℕ → Option ℕ → Option ℕ → ℕ → Act → Option ℕ
-acting_by s over words creates alive thread d a =
-    let full : Bool = nat_lt (journal_limit s) (words + entry_limit s) in
-    let boot : Option ℕ = slice_get (boot_templates s) creates in
-    if over then None
-    else if d == 0 then (if (if full then is_halt a else zero_by boot alive a) then Some 0 else None)
-    else if full || is_some boot then None else thread
 
 -- these say in which thread an act may come
 pub acting_by_counters : (s : System) (past : Past) (d : ℕ) (a : Act) → acting_thread s past d a ≡ acting_by s (is_over past) (words_of past) (creates_made past) (first_alive past) (domain_thread past d a) d a

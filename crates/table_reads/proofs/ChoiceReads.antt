@@ -1,13 +1,11 @@
 -- What is permitted, and the first choice of a domain, read off the records.
-use Rattle.std.proofs.Common.{◌≡◌, refl, sym, ◌∙◌, ap, ℕ, suc, zero, ◌+◌, ◌<◌, ◌≤◌, Bool, true, false, not, cond, ◌&&◌, ◌||◌, List, [], ◌∷◌, length, map, Option, Some, None, is_some, is_none, arith, ◌==◌, if◌then◌else◌, ◌⊎◌, inl, inr, filter, slice_get}
+use Rattle.std.proofs.Common.{◌≡◌, refl, sym, ◌∙◌, ap, ℕ, suc, zero, ◌+◌, ◌<◌, ◌≤◌, Bool, true, false, not, cond, ◌&&◌, ◌||◌, List, [], ◌∷◌, length, map, Option, Some, None, is_some, is_none, arith, ◌==◌, if◌then◌else◌, ◌⊎◌, inl, inr, slice_get}
 use Rattle.std.specs.List.{range_with_len, find}
 use Rattle.std.specs.Prelude.{nat_lt, nat_le}
 use Rattle.std.proofs.lemmas.Bool.Decides.{nat_tests}
 use Rattle.jx_base.specs.declared.act.Act.{Act}
 use Rattle.jx_base.specs.declared.act.Act.TheVariants as act
 use Rattle.jx_base.specs.declared.ids.ServiceId.{ServiceId}
-use Rattle.jx_base.specs.declared.states.CallState.{CallState}
-use Rattle.jx_base.specs.declared.states.CallState.TheVariants as call
 use Rattle.jx_base.specs.declared.states.DomainState.{DomainState}
 use Rattle.jx_base.specs.declared.states.ThreadState.{ThreadState}
 use Rattle.jx_base.specs.declared.states.ThreadState.TheVariants as thread
@@ -26,12 +24,9 @@ use Rattle.table_threads.proofs.Records.{find_range, find_same, numbered_record,
 use Rattle.table_threads.proofs.Actors.{live_made, live_by_reason}
 use Rattle.table_threads.proofs.CallActs.{call_service_there, call_caller_there}
 use Rattle.std.specs.Option.{option_and_then, option_map, option_or, unwrap_or}
+use Rattle.table_reads.specs.TableReads.{lives_in, place_from, thread_in, running_in, is_answered, resumable_in, head_in, resume_by, take_by, choice_by, can_act_by}
 
 -- ---- life
-
--- whether a domain lives, by the records of the domains
-abbrev pub lives_in : List DomainState → ℕ → Bool
-lives_in items d = passes (λ item. is_none item.ended) (numbered items d)
 
 -- the records say which domains live
 pub lives_by_records : (s : System) (past : Past) (d : ℕ) → is_live past d ≡ lives_in (domain_records s past) d
@@ -67,15 +62,6 @@ lives_by_records s past d = by (nat_lt 0 d) refl (nat_le d (domains_made past)) 
 
 -- ---- threads
 
--- the place of the first item that passes, counted from that number
-abbrev pub place_from : {A : Type 0} → (A → Bool) → ℕ → List A → Option ℕ
-place_from p a [] = None
-place_from p a (x ∷ xs) = elim (p x) [ true ↦ Some a | false ↦ place_from p (a + 1) xs ]
-
--- the first thread whose state passes, by the records
-abbrev pub thread_in : List ThreadRecord → (ThreadState → Bool) → Option ℕ
-thread_in items p = place_from (λ item. p item.state) 0 items
-
 place_found : {A : Type 0} (f : ℕ → A) (p : A → Bool) (a n : ℕ) → find (λ t. p (f t)) (range_with_len a n) ≡ place_from p a (map f (range_with_len a n))
 place_found f p a zero = refl
 place_found f p a (suc n) = by (p (f a)) (place_found f p (a + 1) n)
@@ -107,25 +93,12 @@ thread_by_records past d p =
     find_range (λ t. passes p (thread_state past d t)) (λ t. p (thread_record past d t).state) 0 (length (service_threads past d) + 1) (λ t l u. ap (passes p) (state_by_record past d t (omega (arith, u))))
     ∙ place_found (thread_record past d) (λ item. p item.state) 0 (length (service_threads past d) + 1)
 
--- the running thread, by the records
-abbrev pub running_in : List DomainState → List ThreadRecord → ℕ → Option ℕ
-running_in domains threads d = if lives_in domains d then thread_in threads is_running_state else None
-
 -- the records say which thread runs
 pub running_by_records : (s : System) (past : Past) (d : ℕ) → running_thread past d ≡ running_in (domain_records s past) (thread_records past d) d
 unfolding running_thread
 running_by_records s past d = ap2 (λ (b : Bool) (o : Option ℕ). if b then o else None) (lives_by_records s past d) (thread_by_records past d is_running_state)
 
 -- ---- calls
-
--- whether a call in that state is answered and its caller hasn't gone on
-abbrev pub is_answered : CallState → Bool
-is_answered (call.Answered k) = true
-is_answered _ = false
-
--- whether a caller can go on after a call, by the records
-abbrev pub resumable_in : List DomainState → List CallRecord → ℕ → Bool
-resumable_in domains calls c = passes (λ item. is_answered item.state && lives_in domains item.caller) (numbered calls c)
 
 made_resumable : (s : System) (past : Past) (c : ℕ) → 1 ≤ c → c ≤ calls_made past → is_resumable past c ≡ resumable_in (domain_records s past) (call_records past) c
 unfolding call_records call_record passes is_resumable has_live_caller call_state call_stage
@@ -160,7 +133,7 @@ pub unmade_answer : (past : Past) (c : ℕ) → (c ≡ 0) ⊎ (calls_made past <
 unfolding answer_of first_since
 unmade_answer [] c h = refl
 unmade_answer (e ∷ past) c h =
-    ap2 (λ (o : Option Answer) (x : Option Entry). elim o as (λ _. Option Answer) [ Some a ↦ Some a | None ↦ elim (is_some x) [ true ↦ answered_by past e c | false ↦ None ] ])
+    ap2 (λ (o : Option Answer) (x : Option Entry). option_or o (if is_some x then answered_by past e c else None))
     (unmade_answer past c (before h)) (unmade_entry past c (before h))
   where
     before : (c ≡ 0) ⊎ (calls_made (e ∷ past) < c) → (c ≡ 0) ⊎ (calls_made past < c)
@@ -194,10 +167,6 @@ resumable_by_records s past c = by (nat_lt 0 c) refl (nat_le c (calls_made past)
     by true q false r = none (inr (beyond c (calls_made past) r))
     by true q true r = made_resumable s past c (low c q) (high c (calls_made past) r)
 
--- the first waiting call of a service, by the records
-abbrev pub head_in : List CallRecord → List ℕ → ℕ → Option ℕ
-head_in calls waiting k = slice_get (filter (λ c. passes (λ item. item.service == k) (numbered calls c)) waiting) 0
-
 -- the records say which call is the first of a service's queue
 pub head_by_records : (past : Past) (k : ℕ) → queue_head past k ≡ head_in (call_records past) (waiting_calls past) k
 unfolding queue_head queued_calls waiting_calls up_to call_records call_record passes is_number
@@ -208,23 +177,6 @@ head_by_records past k =
     ∙ sym (ap (passes (λ (item : CallRecord). item.service == k)) (numbered_record (call_record past) (calls_made past) c l (omega (arith, u))))))
 
 -- ---- the first choice
-
--- the resume of a thread in that state, by the records
-abbrev pub resume_by : List DomainState → List CallRecord → ThreadState → Option Act
-resume_by domains calls (thread.Waiting c) = if resumable_in domains calls c.0 then Some (act.Resume c) else None
-resume_by domains calls _ = None
-
--- the take of a service's first call where a thread of it is idle, by the records
-abbrev pub take_by : List ThreadRecord → List CallRecord → List ℕ → ℕ → Option Act
-take_by threads calls waiting k = if is_some (thread_in threads (is_idle_for k)) then option_map (λ c. act.Take (record { 0 = c })) (head_in calls waiting k) else None
-
--- the first choice of a domain with those services, by the records
-abbrev pub choice_by : List DomainState → List ThreadRecord → List CallRecord → List ℕ → List ServiceId → ℕ → Option Act
-choice_by domains threads calls waiting services d =
-    if lives_in domains d && is_none (running_in domains threads d)
-    then option_or (first_some (λ item. resume_by domains calls item.state) threads)
-    (option_or (first_some (λ k. take_by threads calls waiting k.0) services) (option_map (λ t. act.Go (record { 0 = t })) (thread_in threads is_yielded)))
-    else None
 
 some_range : {A B : Type 0} (f : ℕ → Option B) (g : A → Option B) (item : ℕ → A) (a n : ℕ) → ((t : ℕ) → a ≤ t → t < a + n → f t ≡ g (item t)) → first_some f (range_with_len a n) ≡ first_some g (map item (range_with_len a n))
 unfolding first_some
@@ -279,10 +231,6 @@ choice_by_records s past d =
     goes = some_found (λ t. passes is_yielded (thread_state past d t)) 0 (length (service_threads past d) + 1) ∙ ap (option_map (λ t. act.Go (record { 0 = t }))) (thread_by_records past d is_yielded)
 
 -- ---- who can act
-
--- whether a domain can act, by the records
-abbrev pub can_act_by : List DomainState → List ThreadRecord → List CallRecord → List ℕ → List ServiceId → ℕ → Bool
-can_act_by domains threads calls waiting services d = is_some (running_in domains threads d) || is_some (choice_by domains threads calls waiting services d)
 
 -- the records say who can act
 pub can_act_by_records : (s : System) (past : Past) (d : ℕ) → can_act past d ≡ can_act_by (domain_records s past) (thread_records past d) (call_records past) (waiting_calls past) (service_threads past d) d

@@ -1,5 +1,5 @@
 -- What a reply asks of a past, read off the records.
-use Rattle.std.proofs.Common.{◌≡◌, refl, sym, ◌∙◌, ap, ℕ, suc, zero, ◌+◌, ◌-◌, ◌<◌, ◌≤◌, Bool, true, false, not, cond, ◌&&◌, ◌||◌, List, [], ◌∷◌, map, Option, Some, None, is_some, arith, ◌==◌, if◌then◌else◌, ◌⊎◌, inl, inr, slice_get, filter}
+use Rattle.std.proofs.Common.{◌≡◌, refl, sym, ◌∙◌, ap, ℕ, suc, zero, ◌+◌, ◌-◌, ◌<◌, ◌≤◌, Bool, true, false, not, ◌&&◌, List, [], ◌∷◌, map, Option, Some, None, is_some, arith, ◌==◌, if◌then◌else◌, ◌⊎◌, inl, inr}
 use Rattle.std.specs.Prelude.{nat_le, nat_lt}
 use Rattle.std.specs.List.{range_with_len, list_all}
 use Rattle.std.proofs.lemmas.Bool.Decides.{nat_tests}
@@ -10,7 +10,7 @@ use Rattle.jx_base.specs.declared.act.Reply.TheVariants as reply
 use Rattle.jx_base.specs.declared.act.Entry.{Entry}
 use Rattle.jx_base.specs.declared.states.DomainState.{DomainState}
 use Rattle.jx_base.specs.declared.program.System.{System}
-use Rattle.jx_base.specs.Basics.{up_to, numbered, passes, contains_number}
+use Rattle.jx_base.specs.Basics.{up_to, numbered, passes}
 use Rattle.program_model.specs.Limits.{domain_limit, granule_limit}
 use Rattle.jx_base.specs.Histories.{Past, nth_entry, count_where}
 use Rattle.jx_model.specs.Domains.{is_live, is_birth, makes_domain, domains_made, birth_of, heap_place_of, creator_of, template_of, named_template}
@@ -21,12 +21,13 @@ use Rattle.jx_model.specs.Holding.{holds_object, is_extent_in_use}
 use Rattle.jx_model.specs.Granules.{Run, heap_run, heap_granules, is_free_run, least_free, first_fit, is_used_granule, used_runs, lies_in_one}
 use Rattle.jx_model.specs.Replies.{reply_to}
 use Rattle.jx_model.specs.Tables.{domain_record, domain_records, ServiceRecord, service_record, service_records, CallRecord, call_record, call_records, ObjectRecord, object_record, object_records, granule_flags, extent_record, extent_bytes, named_service}
-use Rattle.table_threads.proofs.Binds.{HasLastBinds}
+use Rattle.table_threads.specs.LastBinds.{HasLastBinds}
 use Rattle.jx_model.specs.Legal.{IsAdmittedPast}
-use Rattle.jx_base.proofs.BasicLaws.{ap2, both}
+use Rattle.jx_base.proofs.BasicLaws.{ap2, both, at_most, beyond}
 use Rattle.jx_base.proofs.NthEntries.{nth_passes, nth_there, nth_none}
 use Rattle.jx_model.proofs.Refusals.{valid_none}
-use Rattle.table_threads.proofs.Records.{is_set, get_range, numbered_record, no_record}
+use Rattle.table_threads.specs.Changes.{is_set}
+use Rattle.table_threads.proofs.Records.{get_range, numbered_record, no_record}
 use Rattle.table_threads.proofs.Actors.{live_made, domains_fit}
 use Rattle.jx_model.proofs.Exported.{held_made}
 use Rattle.table_objects.proofs.Riding.{use_made}
@@ -34,8 +35,9 @@ use Rattle.table_objects.proofs.UsedBefore.{Use, ByDomain, ByCall, use_before}
 use Rattle.table_objects.proofs.ExtentsInUse.{holder_lives, carrier_made}
 use Rattle.table_threads.proofs.CallActs.{call_caller_there}
 use Rattle.table_extents.proofs.Granules.{fits_spawn}
-use Rattle.table_reads.proofs.ChoiceReads.{lives_in, lives_by_records, unmade_entry}
-use Rattle.table_reads.proofs.ActingReads.{by_number, owner_in, owner_by_records, no_export, at_most, beyond}
+use Rattle.table_reads.specs.TableReads.{lives_in, owner_in, flag_at, is_flagged}
+use Rattle.table_reads.proofs.ChoiceReads.{lives_by_records, unmade_entry}
+use Rattle.table_reads.proofs.ActingReads.{by_number, owner_by_records, no_export}
 use Rattle.std.specs.Option.{option_and_then, option_map, unwrap_or}
 
 -- ---- domains
@@ -160,10 +162,6 @@ not_true : (b : Bool) → (b ≡ true → ⊥) → b ≡ false
 not_true true h = absurd (h refl)
 not_true false h = refl
 
--- whether the flag of that number is set
-abbrev pub flag_at : List Bool → ℕ → Bool
-flag_at flags d = passes is_set (numbered flags d)
-
 -- who passes has its flag set, where nobody passes without a flag
 pub flagged : (p : ℕ → Bool) (n d : ℕ) → (p d ≡ true → (1 ≤ d) × (d ≤ n)) → p d ≡ flag_at (map p (up_to n)) d
 flagged p n d h = test_by_number p is_set n d (p d) (λ l u. refl) (λ x. not_true (p d) (λ z. none x z))
@@ -266,10 +264,6 @@ fit_same used flags limit n (suc more) g h w =
     runs : (a j : ℕ) → a + j ≤ limit → list_all (λ k. not (used k)) (range_with_len a j) ≡ list_all (λ k. not (flags k)) (range_with_len a j)
     runs a zero l = refl
     runs a (suc j) l = ap2 (λ (x y : Bool). not x && y) (h a (omega (arith, l))) (runs (a + 1) j (omega (arith, l)))
-
--- whether the granule's flag is set
-abbrev pub is_flagged : List Bool → ℕ → Bool
-is_flagged taken g = passes (λ b. b) (slice_get taken g)
 
 -- the flags say the first fit
 pub fit_by_flags : (s : System) (past : Past) (n : ℕ) → first_fit s past n ≡ least_free (is_flagged (granule_flags s past)) n (granule_limit s + 1 - n) 0

@@ -1,6 +1,5 @@
 -- All that is kept stands for the past with the entry, after each kind of act that is done.
 use Rattle.std.proofs.Common.{◌≡◌, refl, sym, ◌∙◌, ap, ℕ, ◌+◌, ◌≤◌, ℤ, pos, Bool, true, false, not, ◌&&◌, ◌||◌, List, [], ◌∷◌, ◌++◌, length, map, replicate, Option, Some, None, arith, ◌==◌, if◌then◌else◌, inr, filter, set}
-use Rattle.std.specs.Str.{bytes_eq}
 use Rattle.jx_base.specs.declared.act.Act.TheVariants as act
 use Rattle.jx_base.specs.declared.act.Reply.{Reply}
 use Rattle.jx_base.specs.declared.act.Reply.TheVariants as reply
@@ -21,7 +20,7 @@ use Rattle.program_model.specs.ParcelParts.{parcel_objects}
 use Rattle.jx_base.specs.Histories.{Past, is_done, is_own}
 use Rattle.jx_model.specs.Domains.{is_birth, makes_domain, ended_by, ended_by_act}
 use Rattle.jx_model.specs.Threads.{new_threads}
-use Rattle.jx_model.specs.Portals.{is_export, exported_interface, services_made, owner_of, has_live_owner, received_service, received_parcel, gives_portal, holds_portal, bound_by_act, bound_service}
+use Rattle.jx_model.specs.Portals.{is_export, exported_interface, services_made, received_service, received_parcel, gives_portal, bound_by_act}
 use Rattle.jx_model.specs.Calls.{Answer, is_call, asked_by, queued_as, is_take_of, is_resume_of, answered_by_act, answer_by_reply, answer_kind, thrown, service_of_call}
 use Rattle.jx_model.specs.MemoryObjects.{Part, made_of, part_within, sides_at, object_part, is_valid, ends_one_of, lineage_of, objects_of, new_parts, extents_made, is_allocation, makes_extent, ended_object, allocated_bytes}
 use Rattle.jx_model.specs.Holding.{holds_object, received_objects, objects_in, is_drop_of, answer_objects, is_extent_in_use}
@@ -30,32 +29,34 @@ use Rattle.jx_model.specs.Permits.{is_choice, is_halt, zero_may}
 use Rattle.jx_model.specs.Replies.{reply_to, bound, done_within, copied}
 use Rattle.jx_model.specs.Bytes.{byte_at}
 use Rattle.jx_model.specs.Growth.{new_object_numbers}
-use Rattle.jx_model.specs.Tables.{Kept, StandsFor, ThreadRecord, ServiceRecord, CallRecord, call_record, ExtentRecord, extent_record, extent_bytes, ObjectRecord, named_service, call_records, extent_records}
+use Rattle.jx_model.specs.Tables.{Kept, StandsFor, ThreadRecord, ServiceRecord, CallRecord, call_record, ExtentRecord, extent_record, extent_bytes, ObjectRecord, call_records, extent_records}
 use Rattle.jx_model.specs.Legal.{IsNext}
 use Rattle.jx_base.proofs.BasicLaws.{ap2, and_false, and_true}
-use Rattle.table_threads.proofs.Records.{is_that, not_that, or_false, each_from, each_record, changed_at, set_changed}
+use Rattle.table_threads.proofs.Records.{is_that, not_that, or_false, set_changed}
+use Rattle.table_threads.specs.Changes.{each_from, each_record, changed_at}
 use Rattle.table_threads.proofs.Actors.{acts_live, live_made, ended_was_live}
-use Rattle.table_threads.proofs.DomainRecords.{born}
+use Rattle.table_threads.specs.ThreadChanges.{born, thread_record_after, first_records, own_changed, own_added}
 use Rattle.table_threads.proofs.CallStages.{StandsAt, takes_queued, returns_running, throws_running}
-use Rattle.table_threads.proofs.ThreadRecords.{thread_record_after}
-use Rattle.table_threads.proofs.ThreadTable.{first_records}
-use Rattle.table_threads.proofs.ThreadActs.{threads_left, threads_stepped, threads_born, threads_exported, own_changed, own_added}
+use Rattle.table_threads.proofs.ThreadActs.{threads_left, threads_stepped, threads_born, threads_exported}
 use Rattle.table_threads.proofs.CallRecords.{calls_counted, call_record_there}
-use Rattle.table_threads.proofs.CallActs.{entry, calls_untouched, calls_after_call, waiting_after_call, calls_after_take, waiting_after_take, calls_after_answer, waiting_after_answer, running_not_queued, return_answers, throw_answers, sent_objects, calls_after_resume, waiting_after_resume, calls_after_end, waiting_after_end, ended_call, owned_by}
-use Rattle.table_objects.proofs.UsedBefore.{undone, turned, ByDomain}
+use Rattle.table_threads.specs.CallChanges.{entry, ended_call, owned_by}
+use Rattle.table_threads.proofs.CallActs.{calls_untouched, calls_after_call, waiting_after_call, calls_after_take, waiting_after_take, calls_after_answer, waiting_after_answer, running_not_queued, return_answers, throw_answers, sent_objects, calls_after_resume, waiting_after_resume, calls_after_end, waiting_after_end}
+use Rattle.table_objects.proofs.UsedBefore.{ByDomain}
+use Rattle.jx_model.proofs.DoneReplies.{undone}
 use Rattle.table_objects.proofs.ExtentsInUse.{in_use}
 use Rattle.table_objects.proofs.Parts.{part_extent, with_done}
-use Rattle.table_extents.proofs.ByteRecords.{written, bytes_after_fill, others_after_fill, bytes_after_set, others_after_set, bytes_after_copy, others_after_copy}
-use Rattle.jx_model.proofs.Exported.{held_made, exported_stays}
-use Rattle.table_objects.proofs.ServiceRecords.{services_more, services_kept, new_service_record, portals_same}
+use Rattle.table_extents.specs.ExtentChanges.{written, freed_runs}
+use Rattle.table_extents.proofs.ByteRecords.{bytes_after_fill, others_after_fill, bytes_after_set, others_after_set, bytes_after_copy, others_after_copy}
+use Rattle.jx_model.proofs.Exported.{exported_stays}
+use Rattle.table_objects.proofs.ServiceRecords.{services_more, services_kept, portals_same}
+use Rattle.table_objects.specs.ObjectChanges.{new_service_record, new_object_record, object_record_after}
 use Rattle.table_threads.proofs.Binds.{binds_after_bind}
-use Rattle.table_objects.proofs.ObjectRecords.{new_object_record}
 use Rattle.table_extents.proofs.ExtentRecords.{extents_more, extents_written, kept_bytes, extent_record_there}
-use Rattle.table_extents.proofs.FreedRuns.{freed_runs}
-use Rattle.table_steps.proofs.Unchanged.{with_entry, over_after, words_after, creates_after, no_drop, keeps_domains, keeps_services, keeps_names, keeps_calls, keeps_waiting, keeps_parts, keeps_objects, keeps_extents, keeps_taken}
-use Rattle.table_objects.proofs.EachRecord.{portals_after, object_record_after}
-use Rattle.table_steps.proofs.StepParts.{in_use_by, domains_born, domains_ended, services_stepped, objects_stepped, objects_beside, each_same, parts_added, extents_counted, extents_stepped, taken_freed, taken_born, born_run, allocated_run, allocated_run_is, taken_allocated}
-use Rattle.std.specs.Option.{option_and_then, option_map, unwrap_or}
+use Rattle.table_steps.specs.Steps.{with_entry, in_use_by, born_run, allocated_run}
+use Rattle.table_steps.proofs.Unchanged.{over_after, words_after, creates_after, no_drop, keeps_domains, keeps_services, keeps_names, keeps_calls, keeps_waiting, keeps_parts, keeps_objects, keeps_extents, keeps_taken}
+use Rattle.table_objects.specs.HolderChanges.{portals_after}
+use Rattle.table_steps.proofs.StepParts.{domains_born, domains_ended, services_stepped, objects_stepped, objects_beside, each_same, parts_added, extents_counted, extents_stepped, taken_freed, taken_born, allocated_run_is, taken_allocated}
+use Rattle.std.specs.Option.{option_map, unwrap_or}
 
 both_hold : (x y : Bool) → not (x && y) ≡ false → (x ≡ true) × (y ≡ true)
 both_hold true true h = (refl, refl)

@@ -11,31 +11,12 @@ use Rattle.jx_model.specs.Permits.{is_over}
 use Rattle.jx_model.specs.Calls.{waiting_calls}
 use Rattle.jx_model.specs.MemoryObjects.{objects_of, objects_made}
 use Rattle.jx_model.specs.Granules.{heap_runs, extent_runs, used_runs, lies_in_one, is_used_granule}
-use Rattle.jx_model.specs.Tables.{Kept, StandsFor, domain_records, service_records, named_service, call_records, object_records, extent_records, granule_flags}
+use Rattle.jx_model.specs.Tables.{StandsFor, domain_records, service_records, named_service, call_records, object_records, extent_records, granule_flags}
+use Rattle.table_steps.specs.Steps.{first_kept}
 
 no_flags : (f : ℕ → Bool) (a n : ℕ) → ((g : ℕ) → f g ≡ false) → map f (range_with_len a n) ≡ replicate n false
 no_flags f a zero h = refl
 no_flags f a (suc n) h = rw (h a, no_flags f (a + 1) n h) refl
-
--- what is kept before the first entry
-abbrev pub first_kept : System → Kept
-first_kept s =
-    record {
-      past = [];
-      over = false;
-      words = 0;
-      creates = 0;
-      domains = [];
-      threads = [];
-      services = [];
-      names = [];
-      calls = [];
-      waiting = [];
-      parts = [];
-      objects = [];
-      extents = [];
-      taken = replicate (granule_limit s) false;
-    }
 
 -- it stands for the past without entries
 pub stands_at_start : (s : System) → StandsFor s (first_kept s)

@@ -1,5 +1,5 @@
 -- All that is kept stands for the past with the entry, after acts that do nothing but to their thread.
-use Rattle.std.proofs.Common.{◌≡◌, refl, sym, ◌∙◌, ap, ℕ, true, false, List, [], ◌∷◌}
+use Rattle.std.proofs.Common.{◌≡◌, refl, sym, ◌∙◌, ap, ℕ, true, false, List, []}
 use Rattle.jx_base.specs.declared.act.Act.{Act}
 use Rattle.jx_base.specs.declared.act.Act.TheVariants as act
 use Rattle.jx_base.specs.declared.act.Reply.{Reply}
@@ -12,10 +12,12 @@ use Rattle.jx_model.specs.Permits.{is_choice}
 use Rattle.jx_model.specs.Replies.{reply_to}
 use Rattle.jx_model.specs.Tables.{Kept, StandsFor}
 use Rattle.jx_model.specs.Legal.{IsNext}
-use Rattle.table_threads.proofs.ThreadRecords.{thread_record_after, leaves_thread}
-use Rattle.table_threads.proofs.ThreadActs.{own_changed, threads_stepped, threads_left}
-use Rattle.table_threads.proofs.CallActs.{entry}
-use Rattle.table_steps.proofs.Unchanged.{with_entry, IsPlain, stands_after_plain, plain_act, plain_lookup, plain_refusal, is_plain_act, touches_calls}
+use Rattle.table_threads.specs.ThreadChanges.{thread_record_after, leaves_thread, own_changed}
+use Rattle.table_threads.proofs.ThreadActs.{threads_stepped, threads_left}
+use Rattle.table_threads.specs.CallChanges.{entry}
+use Rattle.table_steps.specs.Steps.{with_entry}
+use Rattle.table_steps.proofs.Unchanged.{IsPlain, stands_after_plain, plain_act, plain_lookup, plain_refusal, is_plain_act, touches_calls}
+use Rattle.jx_model.proofs.Refusals.{no_threads}
 
 adds_no_threads : (a : Act) (r : Reply) → is_plain_act a ≡ true → new_threads a r ≡ []
 unfolding new_threads
@@ -44,11 +46,6 @@ stands_after_no_name s k d t name h n =
     let q : IsPlain k.past (entry d t (act.Lookup name) reply.NoName) = plain_lookup k.past d t name in
     stands_after_plain s k (entry d t (act.Lookup name) reply.NoName) k.threads h n q (h.threads ∙ sym (threads_left s k.past (entry d t (act.Lookup name) reply.NoName) n q.life.birth refl refl refl))
 
-refused_threads : (a : Act) (r : Refusal) → new_threads a (reply.Refused r) ≡ []
-unfolding new_threads
-refused_threads (act.Export iface k) r = refl
-refused_threads _ r = refl
-
 refused_runs : (s : System) (past : Past) (d : ℕ) (a : Act) (r : Refusal) → reply.Refused r ≡ reply_to s past d a → touches_calls a ≡ false → (is_choice a ≡ false) × (leaves_thread a (reply.Refused r) ≡ true)
 unfolding reply_to is_choice
 refused_runs s past d (act.Take c) r h q = cc
@@ -65,4 +62,4 @@ pub stands_after_refusal : (s : System) (k : Kept) (d t : ℕ) (a : Act) (r : Re
 stands_after_refusal s k d t a r h n p =
     let q : IsPlain k.past (entry d t a (reply.Refused r)) = plain_refusal s k.past (entry d t a (reply.Refused r)) r n refl p in
     let w = refused_runs s k.past d a r n.reply p in
-    stands_after_plain s k (entry d t a (reply.Refused r)) k.threads h n q (h.threads ∙ sym (threads_left s k.past (entry d t a (reply.Refused r)) n q.life.birth (refused_threads a r) w.0 w.1))
+    stands_after_plain s k (entry d t a (reply.Refused r)) k.threads h n q (h.threads ∙ sym (threads_left s k.past (entry d t a (reply.Refused r)) n q.life.birth (no_threads a r) w.0 w.1))

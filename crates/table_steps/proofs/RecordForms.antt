@@ -16,10 +16,13 @@ use Rattle.jx_base.proofs.BasicLaws.{ap2, and_true}
 use Rattle.table_threads.proofs.Records.{same_or_not, is_that, not_that}
 use Rattle.table_threads.proofs.Actors.{live_made}
 use Rattle.table_threads.proofs.CallStages.{live_after}
-use Rattle.table_threads.proofs.CallActs.{owned_by, ended_call, filter_tests}
-use Rattle.table_reads.proofs.ActingReads.{service_in, owner_in, service_by_records, owner_by_records, no_export}
-use Rattle.table_extents.proofs.FreedRuns.{is_heap_freed, is_extent_freed}
-use Rattle.table_steps.proofs.StepParts.{in_use_by, in_use_by_records}
+use Rattle.table_threads.specs.CallChanges.{owned_by, ended_call}
+use Rattle.table_threads.proofs.CallActs.{filter_tests}
+use Rattle.table_reads.specs.TableReads.{service_in, owner_in}
+use Rattle.table_reads.proofs.ActingReads.{service_by_records, owner_by_records, no_export}
+use Rattle.table_extents.specs.ExtentChanges.{is_heap_freed, is_extent_freed}
+use Rattle.table_steps.specs.Steps.{in_use_by}
+use Rattle.table_steps.proofs.StepParts.{in_use_by_records}
 use Rattle.table_reads.proofs.ReplyReads.{in_use_by_record}
 use Rattle.jx_model.specs.MemoryObjects.{objects_of, extents_made}
 use Rattle.std.specs.Option.{option_and_then, option_map, unwrap_or}

@@ -19,27 +19,23 @@ use Rattle.jx_model.specs.Tables.{Kept, StandsFor, holder_flags, domain_record, 
 use Rattle.jx_model.specs.Legal.{IsNext, IsAdmittedPast}
 use Rattle.jx_base.proofs.BasicLaws.{ap2, ap3, up_to_append}
 use Rattle.jx_base.proofs.NthEntries.{nth_new, count_new}
-use Rattle.table_threads.proofs.Records.{is_set, numbered_record, records_length, any_same, records_same, any_append, or_false, each_from, each_record, each_map, changed_at, set_changed}
+use Rattle.table_threads.specs.Changes.{is_set, each_from, each_record, changed_at}
+use Rattle.table_threads.proofs.Records.{numbered_record, records_length, any_same, records_same, any_append, or_false, each_map, set_changed}
 use Rattle.table_threads.proofs.Actors.{live_by_reason, unmade_unended, live_made, domains_fit}
 use Rattle.table_objects.proofs.ExtentsInUse.{holder_lives, some_number}
-use Rattle.table_threads.proofs.DomainRecords.{born, domains_after_birth, domains_after_end, domain_record_there, reason_after}
-use Rattle.table_objects.proofs.Holders.{drops_object}
-use Rattle.table_extents.proofs.ByteRecords.{writes}
-use Rattle.table_objects.proofs.ObjectRecords.{parts_made, new_object_record, objects_after, object_record_beside}
+use Rattle.table_threads.specs.ThreadChanges.{born}
+use Rattle.table_threads.proofs.DomainRecords.{domains_after_birth, domains_after_end, domain_record_there, reason_after}
+use Rattle.table_objects.specs.HolderChanges.{drops_object, portals_after}
+use Rattle.table_extents.specs.ExtentChanges.{writes, freed_runs}
+use Rattle.table_objects.proofs.ObjectRecords.{parts_made, objects_after, object_record_beside}
+use Rattle.table_objects.specs.ObjectChanges.{new_object_record, object_record_after}
 use Rattle.table_extents.proofs.ExtentRecords.{extents_freed, granules_after_birth, granules_after_allocation}
-use Rattle.table_extents.proofs.FreedRuns.{freed_runs, granules_after_freeing}
-use Rattle.table_objects.proofs.EachRecord.{portals_after, services_every, object_record_after, objects_every, objects_every_new}
+use Rattle.table_extents.proofs.FreedRuns.{granules_after_freeing}
+use Rattle.table_objects.proofs.EachRecord.{services_every, objects_every, objects_every_new}
 use Rattle.std.specs.Option.{option_and_then, option_map, unwrap_or}
+use Rattle.table_steps.specs.Steps.{is_record_used, in_use_by, born_run, allocated_run}
 
 -- ---- extents in use, by the records
-
--- whether a record counts as held or carried, and is valid
-abbrev pub is_record_used : ObjectRecord → Bool
-is_record_used item = item.valid && (list_any is_set item.holders || nat_lt 0 item.riding)
-
--- whether an extent is in use, by the parts and the records of the objects
-abbrev pub in_use_by : List Part → List ObjectRecord → ℕ → Bool
-in_use_by parts objects x = list_any (λ m. passes (λ o. o.extent == x) (numbered parts m) && passes is_record_used (numbered objects m)) (up_to (length parts))
 
 any_flags : (p : ℕ → Bool) (xs : List ℕ) → list_any is_set (map p xs) ≡ list_any p xs
 any_flags p [] = refl
@@ -100,14 +96,6 @@ in_use_by_records s past x a =
 
     used : (m : ℕ) → nat_lt 0 (hold_count past m) ≡ (list_any is_set (holder_flags s past m) || nat_lt 0 (riding_count past m))
     used m = either (length (holders past m)) (riding_count past m) ∙ ap (λ (b : Bool). b || nat_lt 0 (riding_count past m)) (sym (held_by_flags s past m a))
-
--- the run of a new domain's heap
-abbrev pub born_run : System → Entry → Run
-born_run s e = (reply_granule e.reply, unwrap_or (option_map (heap_granules s) (named_template s e.act)) 0)
-
--- the run of a new extent
-abbrev pub allocated_run : Entry → Run
-allocated_run e = (reply_granule e.reply, extent_granules (allocated_bytes e.act))
 
 module _ (s : System) (k : Kept) (e : Entry) (h : StandsFor s k) (n : IsNext s k.past e) where
   -- ---- domains

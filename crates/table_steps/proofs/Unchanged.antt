@@ -18,20 +18,22 @@ use Rattle.jx_model.specs.MemoryObjects.{Part, objects_of, new_parts, extents_ma
 use Rattle.jx_model.specs.Holding.{received_objects, objects_in, is_drop_of}
 use Rattle.jx_model.specs.Journal.{words_of, entry_words}
 use Rattle.jx_model.specs.Permits.{is_over, is_ending, creates_made, is_create_entry}
-use Rattle.jx_model.specs.Replies.{reply_to}
 use Rattle.jx_model.specs.Tables.{Kept, StandsFor, ThreadRecord, domain_records, service_records, call_records, object_records, extent_records, granule_flags}
 use Rattle.jx_model.specs.Legal.{IsNext, IsAdmittedPast}
 use Rattle.jx_base.proofs.BasicLaws.{ap2, and_false}
 use Rattle.table_threads.proofs.DomainRecords.{domains_same}
-use Rattle.table_threads.proofs.ThreadTable.{thread_table}
+use Rattle.table_threads.specs.ThreadChanges.{thread_table}
 use Rattle.table_threads.proofs.CallActs.{TouchesNoCall, calls_untouched, waiting_untouched}
-use Rattle.table_objects.proofs.Holders.{gives_object, drops_object}
+use Rattle.table_objects.specs.HolderChanges.{gives_object, drops_object}
 use Rattle.table_objects.proofs.ObjectRecords.{objects_same, object_record_same}
 use Rattle.table_objects.proofs.ServiceRecords.{services_kept, portals_same}
-use Rattle.table_threads.proofs.Binds.{HasLastBinds, binds_same}
+use Rattle.table_threads.specs.LastBinds.{HasLastBinds}
+use Rattle.table_threads.proofs.Binds.{binds_same}
 use Rattle.jx_model.proofs.Exported.{exported_stays}
-use Rattle.table_extents.proofs.ByteRecords.{writes}
+use Rattle.table_extents.specs.ExtentChanges.{writes}
 use Rattle.table_extents.proofs.ExtentRecords.{extents_untouched, granules_untouched}
+use Rattle.table_steps.specs.Steps.{with_entry}
+use Rattle.jx_model.proofs.Refusals.{no_domain, no_end, no_export, no_parcel, no_service, no_bind, no_extent, no_parts, no_objects}
 
 -- ---- what an entry doesn't do
 
@@ -75,16 +77,6 @@ no_drop e h d m = turn (is_own d e) (is_done e.reply) (is_drop_of m e.act) ∙ a
     turn false y z = refl
 
 -- ---- what each entry changes
-
--- what is kept with the entry, before what its act does to the tables
-abbrev pub with_entry : Kept → Entry → Kept
-with_entry k e =
-    record k {
-      past = e ∷ k.past;
-      over = is_ending e.act || k.over;
-      words = k.words + entry_words e;
-      creates = k.creates + (if is_create_entry e then 1 else 0);
-    }
 
 module _ (s : System) (k : Kept) (e : Entry) (h : StandsFor s k) (n : IsNext s k.past e) where
   -- whether the run is over
@@ -273,64 +265,6 @@ plain_lookup past d t name =
 
 -- ---- refusals
 
-refused_domain : (a : Act) (r : Refusal) → makes_domain a (reply.Refused r) ≡ false
-unfolding makes_domain
-refused_domain (act.Create t) r = refl
-refused_domain (act.Spawn name) r = refl
-refused_domain _ r = refl
-
-refused_end : (s : System) (past : Past) (d : ℕ) (a : Act) (r : Refusal) → reply.Refused r ≡ reply_to s past d a → ended_by_act d a (reply.Refused r) ≡ None
-unfolding reply_to ended_by_act is_done
-refused_end s past d (act.Exit code) r h = cc
-refused_end s past d (act.End why) r h = cc
-refused_end s past d (act.Kill k) r h = refl
-refused_end s past d _ r h = refl
-
-refused_export : (a : Act) (r : Refusal) → exported_interface a (reply.Refused r) ≡ None
-unfolding exported_interface
-refused_export (act.Export iface k) r = refl
-refused_export _ r = refl
-
-refused_parcel : (a : Act) (r : Refusal) → received_parcel a (reply.Refused r) ≡ None
-unfolding received_parcel
-refused_parcel (act.Take c) r = refl
-refused_parcel (act.Resume c) r = refl
-refused_parcel _ r = refl
-
-refused_service : (a : Act) (r : Refusal) → received_service a (reply.Refused r) ≡ None
-unfolding received_service
-refused_service (act.Export iface k) r = refl
-refused_service (act.Lookup name) r = refl
-refused_service _ r = refl
-
-refused_bind : (name : List ℕ) (a : Act) (r : Refusal) → bound_by_act name a (reply.Refused r) ≡ None
-unfolding bound_by_act is_done
-refused_bind name (act.Bind n k) r = refl
-refused_bind name _ r = refl
-
-refused_extent : (a : Act) (r : Refusal) → makes_extent a (reply.Refused r) ≡ false
-unfolding makes_extent
-refused_extent (act.Alloc n) r = refl
-refused_extent _ r = refl
-
-refused_parts : (olds : List Part) (x : ℕ) (a : Act) (r : Refusal) → new_parts olds x a (reply.Refused r) ≡ []
-unfolding new_parts
-refused_parts olds x (act.Alloc n) r = refl
-refused_parts olds x (act.Sub m at count) r = refl
-refused_parts olds x (act.Split m at) r = refl
-refused_parts olds x (act.Revoke m) r = refl
-refused_parts olds x _ r = refl
-
-refused_objects : (a : Act) (r : Refusal) → received_objects a (reply.Refused r) ≡ []
-unfolding received_objects objects_in received_parcel
-refused_objects (act.Alloc n) r = refl
-refused_objects (act.Sub m at count) r = refl
-refused_objects (act.Split m at) r = refl
-refused_objects (act.Revoke m) r = refl
-refused_objects (act.Take c) r = refl
-refused_objects (act.Resume c) r = refl
-refused_objects _ r = refl
-
 -- whether an act is a choice or answers a call
 abbrev pub touches_calls : Act → Bool
 touches_calls (act.Take c) = true
@@ -360,12 +294,12 @@ pub plain_refusal : (s : System) (past : Past) (e : Entry) (r : Refusal) → IsN
 unfolding is_birth ended_by is_export is_call queued_as is_allocation is_done
 plain_refusal s past e r n q h =
     record {
-      life = record { birth = ap (makes_domain e.act) q ∙ refused_domain e.act r; ends = ends };
+      life = record { birth = ap (makes_domain e.act) q ∙ no_domain e.act r; ends = ends };
       services = record {
-        export = ap (λ (y : Reply). is_some (exported_interface e.act y)) q ∙ ap is_some (refused_export e.act r);
-        service = ap (received_service e.act) q ∙ refused_service e.act r;
-        parcel = ap (received_parcel e.act) q ∙ refused_parcel e.act r;
-        bind = λ name. ap (bound_by_act name e.act) q ∙ refused_bind name e.act r;
+        export = ap (λ (y : Reply). is_some (exported_interface e.act y)) q ∙ ap is_some (no_export e.act r);
+        service = ap (received_service e.act) q ∙ no_service e.act r;
+        parcel = ap (received_parcel e.act) q ∙ no_parcel e.act r;
+        bind = λ name. ap (bound_by_act name e.act) q ∙ no_bind name e.act r;
       };
       calls = record {
         call = ap (λ (y : Reply). is_some (asked_by e.act) && is_some (queued_as y)) q ∙ and_false (is_some (asked_by e.act));
@@ -375,14 +309,14 @@ plain_refusal s past e r n q h =
         answer = λ c. unanswered e.act e.reply c h;
       };
       objects = record {
-        parts = ap (new_parts (objects_of past) (extents_made past + 1) e.act) q ∙ refused_parts (objects_of past) (extents_made past + 1) e.act r;
-        received = ap (received_objects e.act) q ∙ refused_objects e.act r;
+        parts = ap (new_parts (objects_of past) (extents_made past + 1) e.act) q ∙ no_parts (objects_of past) (extents_made past + 1) e.act r;
+        received = ap (received_objects e.act) q ∙ no_objects e.act r;
         drop = λ m. ap (λ (y : Reply). is_done y && is_drop_of m e.act) q;
         ending = inl (ap is_done q);
-        allocation = ap (makes_extent e.act) q ∙ refused_extent e.act r;
+        allocation = ap (makes_extent e.act) q ∙ no_extent e.act r;
       };
       unwritten = ap (λ (y : Reply). is_done y && writes e.act) q;
     }
   where
     ends : ended_by_act e.domain.0 e.act e.reply ≡ None
-    ends = ap (ended_by_act e.domain.0 e.act) q ∙ refused_end s past e.domain.0 e.act r (sym q ∙ n.reply)
+    ends = ap (ended_by_act e.domain.0 e.act) q ∙ no_end s past e.domain.0 e.act r (sym q ∙ n.reply)

@@ -1,12 +1,11 @@
 -- Who acts, and whom an entry ends: domains that are made and live.
-use Rattle.std.proofs.Common.{◌≡◌, ◌≢◌, refl, sym, ◌∙◌, ap, ℕ, ◌+◌, ◌<◌, ◌≤◌, Bool, true, false, not, ◌&&◌, [], ◌∷◌, Option, Some, None, is_none, arith, ◌==◌, if◌then◌else◌, ◌⊎◌, inl, inr}
+use Rattle.std.proofs.Common.{◌≡◌, ◌≢◌, refl, sym, ◌∙◌, ap, ℕ, ◌<◌, ◌≤◌, Bool, true, false, not, ◌&&◌, [], ◌∷◌, Option, Some, None, is_none, arith, ◌==◌, if◌then◌else◌, ◌⊎◌, inl, inr}
 use Rattle.std.specs.Prelude.{nat_le, nat_lt}
 use Rattle.std.proofs.lemmas.Bool.Decides.{nat_tests}
 use Rattle.jx_base.specs.declared.act.Act.{Act}
 use Rattle.jx_base.specs.declared.act.Act.TheVariants as act
 use Rattle.jx_base.specs.declared.act.Reply.{Reply}
 use Rattle.jx_base.specs.declared.act.Reply.TheVariants as reply
-use Rattle.jx_base.specs.declared.act.Refusal.{Refusal}
 use Rattle.jx_base.specs.declared.act.Refusal.TheVariants as refusal
 use Rattle.jx_base.specs.declared.ids.DomainId.{DomainId}
 use Rattle.jx_base.specs.declared.act.Reason.{Reason}
@@ -20,10 +19,11 @@ use Rattle.jx_model.specs.Domains.{is_live, is_made, is_birth, makes_domain, dom
 use Rattle.jx_model.specs.Permits.{acting_thread, zero_may, is_halt}
 use Rattle.jx_model.specs.Replies.{reply_to, killed, new_domain, spawned, given_or, ◌refuses◌else◌}
 use Rattle.jx_model.specs.Legal.{IsNext, IsAdmittedPast}
-use Rattle.jx_base.proofs.BasicLaws.{both, eq_of}
+use Rattle.jx_base.proofs.BasicLaws.{both, eq_of, turned}
 use Rattle.jx_base.proofs.NthEntries.{count_grows, count_new, count_same}
 use Rattle.jx_model.proofs.Acting.{acting_cases, domain_cases, running_live}
 use Rattle.jx_model.proofs.Serving.{in_domain}
+use Rattle.jx_model.proofs.DoneReplies.{undone}
 
 -- ---- life
 
@@ -91,15 +91,6 @@ unmade_acts s past e d n h = by (e.domain.0 == d) refl (actor_live s past e n)
     by true q (inr l) = absurd (omega (arith, (live_made past e.domain.0 l).high, eq_of e.domain.0 d q, h))
 
 -- ---- whom an entry ends
-
-undone : (b : Bool) (r : Refusal) (rest : Reply) → is_done (b refuses r else rest) ≡ true → (b ≡ false) × (is_done rest ≡ true)
-unfolding ◌refuses◌else◌ is_done
-undone true r rest h = cc
-undone false r rest h = (refl, h)
-
-turned : (b : Bool) → not b ≡ false → b ≡ true
-turned true h = refl
-turned false h = cc
 
 -- a done kill is of a live domain
 pub killed_live : (past : Past) (d k : ℕ) → is_done (killed past d k) ≡ true → is_live past k ≡ true

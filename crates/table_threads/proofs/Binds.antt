@@ -5,10 +5,7 @@ use Rattle.jx_base.specs.declared.act.Entry.{Entry}
 use Rattle.jx_base.specs.Histories.{Past}
 use Rattle.jx_model.specs.Portals.{bound_by_act, last_bound}
 use Rattle.jx_model.specs.Tables.{named_service}
-
--- the list has the last bind of each name
-abbrev pub HasLastBinds : List (List ℕ × ℕ) → Past → Type 0
-HasLastBinds names past = (name : List ℕ) → named_service names name ≡ last_bound past name
+use Rattle.table_threads.specs.LastBinds.{HasLastBinds}
 
 -- a done bind adds itself
 pub binds_after_bind : (names : List (List ℕ × ℕ)) (e : Entry) (past : Past) (name : List ℕ) (k : ℕ) → HasLastBinds names past → ((x : List ℕ) → bound_by_act x e.act e.reply ≡ (if bytes_eq name x then Some k else None)) → HasLastBinds ((name, k) ∷ names) (e ∷ past)

@@ -1,6 +1,5 @@
 -- The calls after each kind of act.
 use Rattle.std.proofs.Common.{◌≡◌, ◌≢◌, refl, sym, ◌∙◌, ap, subst, ℕ, ◌+◌, ◌≤◌, Bool, true, false, not, ◌&&◌, ◌||◌, List, [], ◌∷◌, ◌++◌, length, map, Option, Some, None, is_some, is_none, arith, ◌==◌, if◌then◌else◌, filter, set}
-use Rattle.jx_base.specs.declared.act.Act.{Act}
 use Rattle.jx_base.specs.declared.act.Act.TheVariants as act
 use Rattle.jx_base.specs.declared.act.Reply.{Reply}
 use Rattle.jx_base.specs.declared.act.Reply.TheVariants as reply
@@ -15,7 +14,6 @@ use Rattle.jx_base.specs.declared.program.System.{System}
 use Rattle.jx_base.specs.declared.states.CallState.{CallState}
 use Rattle.jx_base.specs.declared.states.CallState.TheVariants as call
 use Rattle.jx_base.specs.declared.states.AnswerKind.{AnswerKind}
-use Rattle.jx_base.specs.declared.states.AnswerKind.TheVariants as kind
 use Rattle.jx_base.specs.Basics.{up_to, is_number}
 use Rattle.program_model.specs.ParcelParts.{parcel_objects}
 use Rattle.jx_base.specs.Histories.{Past, nth_entry}
@@ -33,11 +31,8 @@ use Rattle.table_threads.proofs.Records.{not_that, is_that, records_same, map_ma
 use Rattle.table_threads.proofs.Places.{answered_placed}
 use Rattle.table_threads.proofs.CallStages.{StandsAt, resumed_answered, live_caller_after, resumes, resumable_parts}
 use Rattle.table_threads.proofs.CallRecords.{place_after, place_kept, state_after_entry, carried_after, call_record_made, call_record_same, call_record_new, calls_same, calls_more, calls_one, unqueues, waiting_after, waiting_same, waiting_more}
-use Rattle.std.specs.Option.{option_and_then, option_map, unwrap_or}
-
--- an entry by its parts
-abbrev pub entry : ℕ → ℕ → Act → Reply → Entry
-entry d t a r = record { domain = record { 0 = d }; thread = record { 0 = t }; act = a; reply = r }
+use Rattle.std.specs.Option.{option_and_then, option_map, unwrap_or, option_or}
+use Rattle.table_threads.specs.CallChanges.{entry, owned_by, state_after_end, carried_after_end, place_after_end, ended_call}
 
 -- tests that agree keep the same
 pub filter_tests : (p q : ℕ → Bool) (xs : List ℕ) → ((x : ℕ) → p x ≡ q x) → filter p xs ≡ filter q xs
@@ -279,37 +274,6 @@ pub record EndsOne (e : Entry) (d : ℕ) : Type 0 where
   pub resume : (c : ℕ) → is_resume_of c e.act ≡ false
   pub answer : (c : ℕ) → answered_by_act c e.act e.reply ≡ None
 
--- a call's state after the end of a domain, by whether it was that domain's to serve
-abbrev pub state_after_end : Bool → CallState → CallState
-state_after_end true call.Queued = call.Answered kind.Ended
-state_after_end true call.Running = call.Answered kind.Ended
-state_after_end lost x = x
-
--- what it carries then, also by whether that domain made it
-abbrev pub carried_after_end : Bool → Bool → CallState → List ℕ → List ℕ
-carried_after_end lost gone call.Queued old = if lost then [] else old
-carried_after_end lost gone (call.Answered k) old = if gone then [] else old
-carried_after_end lost gone _ old = []
-
--- the place of its answer then, from that of the end
-abbrev pub place_after_end : Bool → CallState → Option ℕ → ℕ → Option ℕ
-place_after_end true call.Queued old at = Some at
-place_after_end true call.Running old at = Some at
-place_after_end lost _ old at = old
-
--- a call's record after the end of domain d at that place, by which services are that domain's
-abbrev pub ended_call : (ℕ → Bool) → ℕ → ℕ → CallRecord → CallRecord
-ended_call lost d at item =
-    record item {
-      state = state_after_end (lost item.service) item.state;
-      carried = carried_after_end (lost item.service) (item.caller == d) item.state item.carried;
-      answered_at = place_after_end (lost item.service) item.state item.answered_at at;
-    }
-
--- whether domain d owns the service
-abbrev pub owned_by : Past → ℕ → ℕ → Bool
-owned_by past d k = is_number (owner_of past k) d
-
 asked_there : (e : Entry) → is_call e ≡ true → is_some (asked_by e.act) ≡ true
 unfolding is_call
 asked_there e h = (both (is_some (asked_by e.act)) (is_some (queued_as e.reply)) h).0
@@ -467,7 +431,7 @@ answered_made (e ∷ past) c x h = by (first_since (λ before e. answered_by bef
     grown m = (m.0, omega (arith, m.1, count_grows is_call e past))
 
     by : (o : Option Answer) → first_since (λ before e. answered_by before e c) past c ≡ o → (p : Option Entry) → nth_entry is_call past c ≡ p →
-        (elim o as (λ _. Option Answer) [ Some a ↦ Some a | None ↦ elim (is_some p) [ true ↦ answered_by past e c | false ↦ None ] ]) ≡ Some x →
+        (option_or o (if is_some p then answered_by past e c else None)) ≡ Some x →
         ((y : Answer) → first_since (λ before e. answered_by before e c) past c ≡ Some y → (1 ≤ c) × (c ≤ calls_made past)) → (1 ≤ c) × (c ≤ calls_made (e ∷ past))
     by (Some y) q p w h again = grown (again y q)
     by None q None w h again = cc

@@ -23,11 +23,8 @@ use Rattle.jx_model.proofs.CallSteps.{entry_made}
 use Rattle.jx_model.proofs.Serving.{in_domain, of_none, served, takes, returns_it, throws_it, unanswered, queued_open, not_ended_yet}
 use Rattle.table_threads.proofs.Records.{some_of}
 use Rattle.table_threads.proofs.Actors.{IsMade, live_made, made_stays, acts_live, live_by_reason}
-use Rattle.std.specs.Option.{option_map}
-
-chosen : (b : Bool) (t : ℕ) (x : Option ℕ) → (if b then x else None) ≡ Some t → (b ≡ true) × (x ≡ Some t)
-chosen true t x h = (refl, h)
-chosen false t x h = cc
+use Rattle.std.specs.Option.{option_map, option_or}
+use Rattle.jx_model.proofs.Acting.{chosen}
 
 -- ---- resumes
 
@@ -54,7 +51,7 @@ answer_kept : (e : Entry) (past : Past) (c : ℕ) → is_some (answer_of past c)
 unfolding answer_of first_since
 answer_kept e past c h = by (first_since (λ before e. answered_by before e c) past c) h
   where
-    by : (o : Option Answer) → is_some o ≡ true → is_some (elim o as (λ _. Option Answer) [ Some a ↦ Some a | None ↦ elim (is_some (call_entry past c)) [ true ↦ answered_by past e c | false ↦ None ] ]) ≡ true
+    by : (o : Option Answer) → is_some o ≡ true → is_some (option_or o (if is_some (call_entry past c) then answered_by past e c else None)) ≡ true
     by None h = cc
     by (Some a) h = refl
 
@@ -71,7 +68,7 @@ resumed_answered s (e ∷ past) c a h =
     by (first_since (λ before e. marked (is_resume_of c e.act)) past c) (is_some (call_entry past c)) (is_resume_of c e.act) refl refl h (resumed_answered s past c a.1)
   where
     by : (o : Option (Unit {0})) (m r : Bool) → first_since (λ before e. marked (is_resume_of c e.act)) past c ≡ o → is_resume_of c e.act ≡ r →
-        is_some (elim o as (λ _. Option (Unit {0})) [ Some a ↦ Some a | None ↦ elim m [ true ↦ marked r | false ↦ None ] ]) ≡ true →
+        is_some (option_or o (if m then marked r else None)) ≡ true →
         (is_some (first_since (λ before e. marked (is_resume_of c e.act)) past c) ≡ true → is_some (answer_of past c) ≡ true) → is_some (answer_of (e ∷ past) c) ≡ true
     by (Some u) m r q i h again = answer_kept e past c (again (ap is_some q))
     by None false r q i h again = cc

@@ -14,6 +14,7 @@ use Rattle.jx_base.proofs.NthEntries.{nth_new, nth_old, count_new, count_same}
 use Rattle.table_threads.proofs.Records.{records_same, records_more, records_set, records_get, not_that, is_that}
 use Rattle.table_threads.proofs.Actors.{unmade_unended}
 use Rattle.std.specs.Option.{option_and_then, option_map, unwrap_or}
+use Rattle.table_threads.specs.ThreadChanges.{born}
 
 -- a domain's record by the entry that made it and why it ended
 abbrev pub domain_by : System → Option Entry → Option Reason → DomainState
@@ -24,10 +25,6 @@ domain_by s b r =
       at = unwrap_or (option_map (λ e. reply_granule e.reply) b) 0;
       ended = r;
     }
-
--- the record of the domain that an entry makes
-abbrev pub born : System → Entry → DomainState
-born s e = record { template = unwrap_or (named_template s e.act) 0; creator = e.domain; at = reply_granule e.reply; ended = None }
 
 -- the reason of an entry, or else the one before it
 abbrev pub reason_after : Option (ℕ × Reason) → ℕ → Option Reason → Option Reason

@@ -1,13 +1,13 @@
 -- The places in the history of the entries that queued a call and that answered it: there they are read.
-use Rattle.std.proofs.Common.{◌≡◌, refl, sym, ◌∙◌, ap, ℕ, ◌+◌, ◌<◌, ◌≤◌, Bool, true, false, ◌&&◌, List, [], ◌∷◌, ◌++◌, length, reverse, Option, Some, None, is_some, arith, ◌==◌, slice_get}
+use Rattle.std.proofs.Common.{if◌then◌else◌, ◌≡◌, refl, sym, ◌∙◌, ap, ℕ, ◌+◌, ◌<◌, ◌≤◌, Bool, true, false, ◌&&◌, List, [], ◌∷◌, ◌++◌, length, reverse, Option, Some, None, is_some, arith, ◌==◌, slice_get}
 use Rattle.std.proofs.lemmas.List.{length-reverse, reverse-append}
 use Rattle.jx_base.specs.declared.act.Entry.{Entry}
 use Rattle.jx_base.specs.Histories.{Past, nth_entry, count_where}
 use Rattle.jx_model.specs.Calls.{Answer, answer_of, answered_by, call_entry, first_since}
 use Rattle.jx_model.specs.Tables.{place_of, answered_at}
-use Rattle.jx_base.proofs.BasicLaws.{ap2}
-use Rattle.table_threads.proofs.Records.{is_that, not_that, get_left, get_right}
-use Rattle.std.specs.Option.{option_and_then, option_map}
+use Rattle.jx_base.proofs.BasicLaws.{ap2, get_left, get_right}
+use Rattle.table_threads.proofs.Records.{is_that, not_that}
+use Rattle.std.specs.Option.{option_and_then, option_map, option_or}
 
 -- a place is one of the history's
 pub place_within : (p : Entry → Bool) (past : Past) (n i : ℕ) → place_of p past n ≡ Some i → i < length past
@@ -65,8 +65,8 @@ answered_placed [] c = refl
 answered_placed (e ∷ past) c = by (answer_of past c) (answered_at past c) (is_some (call_entry past c)) (answered_by past e c) (answered_placed past c)
   where
     by : (o : Option Answer) (w : Option ℕ) (m : Bool) (x : Option Answer) → is_some w ≡ is_some o →
-        is_some (elim w as (λ _. Option ℕ) [ Some a ↦ Some a | None ↦ elim m [ true ↦ option_map (λ a. length past) x | false ↦ None ] ])
-        ≡ is_some (elim o as (λ _. Option Answer) [ Some a ↦ Some a | None ↦ elim m [ true ↦ x | false ↦ None ] ])
+        is_some (option_or w (if m then option_map (λ a. length past) x else None))
+        ≡ is_some (option_or o (if m then x else None))
     by (Some a) (Some i) m x h = refl
     by (Some a) None m x h = cc
     by None (Some i) m x h = cc
@@ -90,7 +90,7 @@ placed_later e past c i a q h =
       before = h.before;
       there = ap (λ (xs : List Entry). slice_get xs i) (reverse-append (e ∷ []) past) ∙ get_left (reverse past) (e ∷ []) i (omega (arith, length-reverse past, h.within)) ∙ h.there;
       within = omega (arith, h.within);
-      answer = ap (λ (o : Option Answer). elim o as (λ _. Option Answer) [ Some x ↦ Some x | None ↦ elim (is_some (call_entry past c)) [ true ↦ answered_by past e c | false ↦ None ] ]) q ∙ sym q ∙ h.answer;
+      answer = ap (λ (o : Option Answer). option_or o (if is_some (call_entry past c) then answered_by past e c else None)) q ∙ sym q ∙ h.answer;
     }
 
 -- a call's answer is read at its place
@@ -105,7 +105,7 @@ answer_at_place (e ∷ past) c i h =
 
     by : (w : Option ℕ) → answered_at past c ≡ w → (o : Option Answer) → answer_of past c ≡ o → (m : Bool) → is_some (call_entry past c) ≡ m → (x : Option Answer) → answered_by past e c ≡ x →
         is_some (answered_at past c) ≡ is_some (answer_of past c) →
-        (elim w as (λ _. Option ℕ) [ Some j ↦ Some j | None ↦ elim m [ true ↦ option_map (λ a. length past) x | false ↦ None ] ]) ≡ Some i →
+        (option_or w (if m then option_map (λ a. length past) x else None)) ≡ Some i →
         ((j : ℕ) → answered_at past c ≡ Some j → AnsweredThere past c j) → AnsweredThere (e ∷ past) c i
     by (Some j) wq (Some a) oq m mq x xq s h again = placed_later e past c i a oq (again i (wq ∙ h))
     by (Some j) wq None oq m mq x xq s h again = cc
@@ -119,5 +119,5 @@ answer_at_place (e ∷ past) c i h =
           before = past;
           there = ap (λ (xs : List Entry). slice_get xs i) (reverse-append (e ∷ []) past) ∙ get_right (reverse past) (e ∷ []) 0 i (omega (arith, length-reverse past, q));
           within = omega (arith, q);
-          answer = ap2 (λ (o : Option Answer) (b : Bool). elim o as (λ _. Option Answer) [ Some y ↦ Some y | None ↦ elim b [ true ↦ answered_by past e c | false ↦ None ] ]) oq mq;
+          answer = ap2 (λ (o : Option Answer) (b : Bool). option_or o (if b then answered_by past e c else None)) oq mq;
         }

@@ -5,6 +5,7 @@ use Rattle.std.proofs.lemmas.List.{map-append}
 use Rattle.std.proofs.lemmas.List.Elements.{filter-append}
 use Rattle.std.proofs.lemmas.List.FromFn.{length-map-range_with_len}
 use Rattle.jx_base.specs.Basics.{up_to, numbered}
+use Rattle.table_threads.specs.Changes.{each_from, changed_at}
 
 -- ---- tests and options
 
@@ -29,10 +30,6 @@ some_of (Some x) h = (x, refl)
 pub or_false : (x : Bool) → (x || false) ≡ x
 or_false true = refl
 or_false false = refl
-
--- a flag that is set
-abbrev pub is_set : Bool → Bool
-is_set b = b
 
 -- ---- ranges
 
@@ -177,18 +174,6 @@ pub records_get : {A : Type 0} (f : ℕ → A) (n c i : ℕ) → c ≡ i + 1 →
 unfolding up_to
 records_get f n c i e l = get_range f 1 n i (omega (arith, e, l)) ∙ ap (λ (k : ℕ). Some (f k)) (omega (arith, e))
 
--- an item of a list with more behind it
-pub get_left : {A : Type 0} (xs ys : List A) (i : ℕ) → i < length xs → slice_get (xs ++ ys) i ≡ slice_get xs i
-get_left [] ys i l = absurd (omega (arith, l))
-get_left (x ∷ xs) ys zero l = refl
-get_left (x ∷ xs) ys (suc i) l = get_left xs ys i (omega (arith, l))
-
--- an item behind a list
-pub get_right : {A : Type 0} (xs ys : List A) (i j : ℕ) → j ≡ length xs + i → slice_get (xs ++ ys) j ≡ slice_get ys i
-get_right [] ys i j q = ap (slice_get ys) (omega (arith, q))
-get_right (x ∷ xs) ys i zero q = absurd (omega (arith, q))
-get_right (x ∷ xs) ys i (suc j) q = get_right xs ys i j (omega (arith, q))
-
 -- a record by its number
 pub numbered_record : {A : Type 0} (f : ℕ → A) (n d : ℕ) → 1 ≤ d → d ≤ n → numbered (map f (up_to n)) d ≡ Some (f d)
 unfolding numbered
@@ -273,25 +258,10 @@ count_changed p q n c l u h = count_range_changed p q 1 n c l (omega (arith, u))
 
 -- ---- records that change each by its number
 
--- each item changed by its number, counted from that one
-abbrev pub each_from : {A : Type 0} → (ℕ → A → A) → ℕ → List A → List A
-each_from f a [] = []
-each_from f a (x ∷ xs) = f a x ∷ each_from f (a + 1) xs
-
--- each record changed by its number
-abbrev pub each_record : {A : Type 0} → (ℕ → A → A) → List A → List A
-each_record f xs = each_from f 1 xs
-
 -- the records that a definition gives, each changed
 pub each_map : {A : Type 0} (f : ℕ → A → A) (g : ℕ → A) (a n : ℕ) → each_from f a (map g (range_with_len a n)) ≡ map (λ m. f m (g m)) (range_with_len a n)
 each_map f g a zero = refl
 each_map {A = A} f g a (suc n) = ap (λ (xs : List A). f a (g a) ∷ xs) (each_map f g (a + 1) n)
-
--- one item changed
-abbrev pub changed_at : {A : Type 0} → ℕ → (A → A) → List A → List A
-changed_at i f [] = []
-changed_at zero f (x ∷ xs) = f x ∷ xs
-changed_at (suc i) f (x ∷ xs) = x ∷ changed_at i f xs
 
 -- to set what a change gives of the item that is there is to change it
 pub set_changed : {A : Type 0} (i : ℕ) (f : A → A) (xs : List A) (x : A) → slice_get xs i ≡ Some x → set xs i (f x) ≡ changed_at i f xs

@@ -1,5 +1,5 @@
 -- What a thread serves is a call of its service.
-use Rattle.std.proofs.Common.{◌≡◌, refl, sym, ◌∙◌, ap, ℕ, suc, ◌<◌, ◌≤◌, Bool, true, false, [], ◌∷◌, length, Option, Some, None, arith, ◌==◌, if◌then◌else◌, ◌⊎◌, inl, inr, slice_get}
+use Rattle.std.proofs.Common.{◌≡◌, refl, sym, ◌∙◌, ap, ℕ, suc, ◌<◌, ◌≤◌, Bool, true, false, [], ◌∷◌, length, Option, Some, None, arith, ◌==◌, ◌⊎◌, inl, inr, slice_get}
 use Rattle.std.specs.Prelude.{nat_le}
 use Rattle.std.proofs.lemmas.Bool.Decides.{nat_tests}
 use Rattle.jx_base.specs.declared.act.Act.{Act}
@@ -18,23 +18,14 @@ use Rattle.jx_model.specs.Threads.{service_threads, new_threads_of, served_call,
 use Rattle.jx_model.specs.Calls.{service_of_call}
 use Rattle.jx_model.specs.Permits.{acting_thread, is_halt, zero_may, choice_thread, taking_thread, idle_thread, is_idle_for, is_head, domain_thread, may_perform, is_zero_act, is_choice}
 use Rattle.jx_model.specs.Legal.{IsAdmittedPast}
-use Rattle.jx_base.proofs.BasicLaws.{ap2, both, eq_of}
-use Rattle.jx_model.proofs.Acting.{where_passes, acting_within}
+use Rattle.jx_base.proofs.BasicLaws.{ap2, both, eq_of, get_left}
+use Rattle.jx_model.proofs.Acting.{where_passes, acting_within, chosen, of_then}
 use Rattle.jx_model.proofs.CallSteps.{service_made}
 use Rattle.jx_model.proofs.Serving.{in_domain, of_none, served, served_before, take_at}
-use Rattle.table_threads.proofs.AbsentThreads.{absent}
-use Rattle.table_threads.proofs.Records.{get_left}
+use Rattle.jx_model.proofs.OneThread.{absent}
 use Rattle.std.specs.Option.{option_and_then, option_map}
 
 -- ---- the service of what a thread serves
-
-chosen : (b : Bool) (t : ℕ) (x : Option ℕ) → (if b then x else None) ≡ Some t → (b ≡ true) × (x ≡ Some t)
-chosen true t x h = (refl, h)
-chosen false t x h = cc
-
-of_then : (o : Option ℕ) (f : ℕ → Option ℕ) (t : ℕ) → option_and_then f o ≡ Some t → (k : ℕ) × (o ≡ Some k) × (f k ≡ Some t)
-of_then None f t h = cc
-of_then (Some k) f t h = (k, refl, h)
 
 idle_after : (k : ℕ) (x : ThreadState) (a : Act) (r : Reply) → is_idle_for k (state_after x a r) ≡ true → is_idle_for k x ≡ true
 unfolding state_after is_idle_for

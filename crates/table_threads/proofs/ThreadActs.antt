@@ -22,10 +22,12 @@ use Rattle.jx_model.specs.Tables.{ThreadRecord, thread_record, thread_records}
 use Rattle.jx_model.specs.Legal.{IsNext, IsAdmittedPast}
 use Rattle.jx_base.proofs.BasicLaws.{eq_of}
 use Rattle.jx_model.proofs.Acting.{acting_cases, domain_cases, acting_within, running_runs}
-use Rattle.table_threads.proofs.Records.{is_that, records_get, get_range, changed_at, set_changed}
+use Rattle.table_threads.proofs.Records.{is_that, records_get, get_range, set_changed}
+use Rattle.table_threads.specs.Changes.{changed_at}
 use Rattle.table_threads.proofs.Actors.{IsMade, live_made, actor_live}
-use Rattle.table_threads.proofs.ThreadRecords.{thread_record_after, runs_as, leaves_thread, adds_none, threads_of_own, idle_record}
-use Rattle.table_threads.proofs.ThreadTable.{thread_table, threads_after, threads_kept, threads_after_birth, threads_added, records_left, first_records}
+use Rattle.table_threads.specs.ThreadChanges.{thread_record_after, runs_as, leaves_thread, idle_record, thread_table, first_records, own_changed, own_added}
+use Rattle.table_threads.proofs.ThreadRecords.{adds_none, threads_of_own}
+use Rattle.table_threads.proofs.ThreadTable.{threads_after, threads_kept, threads_after_birth, threads_added, records_left}
 
 -- ---- the acting thread
 
@@ -75,11 +77,6 @@ threads_of_zero e past b z = threads_kept e past b (λ v. absurd (omega (arith, 
 
 -- ---- acts that change their thread
 
--- the table of the threads with the record of one thread changed; Domain Zero has none there
-abbrev pub own_changed : ℕ → ℕ → (ThreadRecord → ThreadRecord) → List (List ThreadRecord) → List (List ThreadRecord)
-own_changed zero t f table = table
-own_changed (suc i) t f table = changed_at i (changed_at t f) table
-
 record_there : (past : Past) (d t : ℕ) → t ≤ length (service_threads past d) → slice_get (thread_records past d) t ≡ Some (thread_record past d t)
 unfolding thread_records threads_of
 record_there past d t l = get_range (thread_record past d) 0 (length (service_threads past d) + 1) t (omega (arith, l)) ∙ ap (λ (k : ℕ). Some (thread_record past d k)) (omega arith)
@@ -109,11 +106,6 @@ threads_stepped s past e n b h = by e.domain.0 refl
 pub threads_born : (s : System) (past : Past) (e : Entry) → IsAdmittedPast s (e ∷ past) → is_birth e ≡ true → new_threads e.act e.reply ≡ [] → is_choice e.act ≡ false → leaves_thread e.act e.reply ≡ true → thread_table (e ∷ past) ≡ thread_table past ++ first_records ∷ []
 threads_born s past e a b h c l =
     threads_after_birth s e past a b (λ v. records_left e past e.domain.0 e.thread.0 (adds_none e e.domain.0 h) (own_thread e) (thread_there s past e a.0) (runs_now s past e a.0 c v) l)
-
--- the table of the threads with idle ones added to a domain
-abbrev pub own_added : ℕ → List ServiceId → List (List ThreadRecord) → List (List ThreadRecord)
-own_added zero new table = table
-own_added (suc i) new table = changed_at i (λ items. items ++ map idle_record new) table
 
 -- an export adds idle threads to its domain
 pub threads_exported : (s : System) (past : Past) (e : Entry) → IsAdmittedPast s (e ∷ past) → is_birth e ≡ false → is_choice e.act ≡ false → leaves_thread e.act e.reply ≡ true →

@@ -18,21 +18,9 @@ use Rattle.jx_base.proofs.BasicLaws.{ap2, ap3}
 use Rattle.jx_model.proofs.OneThread.{serves_same, last_same, state_with}
 use Rattle.table_threads.proofs.Records.{map_range, set_range}
 use Rattle.std.specs.Option.{option_map}
+use Rattle.table_threads.specs.ThreadChanges.{runs_as, thread_record_after, leaves_thread}
 
 -- ---- one thread
-
--- what a thread does where nothing made it stop
-abbrev pub runs_as : Option ServiceId → Option CallId → ThreadState
-runs_as None c = thread.Running
-runs_as (Some s) c = serving_state s c
-
--- a thread's record after its own entry
-abbrev pub thread_record_after : ThreadRecord → Act → Reply → ThreadRecord
-thread_record_after item a r =
-    record item {
-      state = state_after (runs_as item.service (served_after item.serves a)) a r;
-      serves = served_after item.serves a;
-    }
 
 serves_own : (e : Entry) (past : Past) (d t : ℕ) → is_of_thread d t e ≡ true → served_call (e ∷ past) d t ≡ served_after (served_call past d t) e.act
 unfolding served_call
@@ -135,16 +123,6 @@ threads_of_own e past d t n h l =
 
 -- ---- acts that leave their thread running
 
--- whether an act of a running thread leaves it running as before
-abbrev pub leaves_thread : Act → Reply → Bool
-leaves_thread (act.Call s m p) (reply.Queued c) = false
-leaves_thread (act.Take c) r = false
-leaves_thread (act.Return c p) r = false
-leaves_thread (act.Throw c p) r = false
-leaves_thread act.Yield r = false
-leaves_thread (act.EndThread k) r = false
-leaves_thread _ _ = true
-
 left_served : (old : Option CallId) (a : Act) (r : Reply) → leaves_thread a r ≡ true → served_after old a ≡ old
 unfolding served_after
 left_served old (act.Take c) r h = cc
@@ -198,7 +176,3 @@ record_left past d t a r h l =
     ∙ sym (running_record past d t h)
 
 -- ---- new threads
-
--- a thread that was just added is idle
-abbrev pub idle_record : ServiceId → ThreadRecord
-idle_record k = record { service = Some k; state = thread.Idle k; serves = None }

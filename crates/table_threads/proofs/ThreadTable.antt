@@ -13,18 +13,15 @@ use Rattle.jx_model.specs.Domains.{is_birth, domains_made}
 use Rattle.jx_model.specs.Threads.{service_threads, new_threads_of, threads_of, is_of_thread, state_by_last, serving_state, thread_state, is_running_state}
 use Rattle.jx_model.specs.Tables.{service_of_thread, ThreadRecord, thread_record, thread_records, state_or_over}
 use Rattle.jx_model.specs.Legal.{IsNext, IsAdmittedPast}
-use Rattle.jx_base.proofs.BasicLaws.{ap2, ap3, eq_of, range_append}
+use Rattle.jx_base.proofs.BasicLaws.{ap2, ap3, eq_of, range_append, get_left, get_right}
 use Rattle.jx_base.proofs.NthEntries.{count_new, count_same}
-use Rattle.jx_model.proofs.OneThread.{serves_same, last_same, state_with}
-use Rattle.table_threads.proofs.Records.{get_left, get_right, map_range, set_range, records_same, records_more, records_set, not_that, same_or_not}
-use Rattle.table_threads.proofs.ThreadRecords.{leaves_thread, threads_of_own, threads_of_other, idle_record, record_left, thread_record_own, thread_record_other, not_this}
+use Rattle.jx_model.proofs.OneThread.{serves_same, last_same, state_with, IsAbsent, absent, stranger}
+use Rattle.table_threads.proofs.Records.{map_range, set_range, records_same, records_more, records_set, not_that, same_or_not}
+use Rattle.table_threads.specs.ThreadChanges.{leaves_thread, idle_record, thread_table, first_records}
+use Rattle.table_threads.proofs.ThreadRecords.{threads_of_own, threads_of_other, record_left, thread_record_own, thread_record_other, not_this}
 use Rattle.table_threads.proofs.Actors.{unmade_acts}
-use Rattle.table_threads.proofs.AbsentThreads.{IsAbsent, absent, unmade_absent, unmade_threads, stranger}
+use Rattle.table_threads.proofs.AbsentThreads.{unmade_absent, unmade_threads}
 use Rattle.std.specs.Option.{option_map}
-
--- all threads, by domain
-abbrev pub thread_table : Past → List (List ThreadRecord)
-thread_table past = map (thread_records past) (up_to (domains_made past))
 
 own_of : (e : Entry) (d : ℕ) → e.domain.0 ≢ d → is_own d e ≡ false
 unfolding is_own
@@ -66,10 +63,6 @@ records_left e past d t n h l r k =
     ∙ set_itself (thread_record past d) 0 (length (service_threads past d) + 1) t (omega (arith, l))
 
 -- ---- a new domain
-
--- the records of a domain that was just made
-abbrev pub first_records : List ThreadRecord
-first_records = record { service = None; state = thread.Running; serves = None } ∷ []
 
 new_records : (past : Past) (d : ℕ) → service_threads past d ≡ [] → IsAbsent past d 0 → thread_records past d ≡ first_records
 unfolding thread_records threads_of thread_record thread_state state_or_over state_by_last

@@ -1,0 +1,2 @@
+pub mod HolderChanges
+pub mod ObjectChanges

@@ -1,0 +1,4 @@
+pub mod Changes
+pub mod ThreadChanges
+pub mod CallChanges
+pub mod LastBinds
