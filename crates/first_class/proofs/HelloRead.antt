@@ -12,7 +12,7 @@ use Rattle.class_grammar.specs.Members.{opened_members}
 use Rattle.class_grammar.specs.ClassGrammar.{opened_class_grammar, class_file_part}
 
 use Rattle.class_grammar.specs.CodeGrammar.{opened_code_grammar}
-use Rattle.code_reader.specs.CodeReading.{code_reading, opened_code_reading}
+use Rattle.code_reader.specs.CodeReading.{is_marked, leads_astray, is_good_range, code_reading}
 use Rattle.class_grammar.specs.Parts.{opened_parts}
 use Rattle.class_grammar.specs.Opcodes.{opened_opcodes}
 use Rattle.class_grammar.specs.ReadFiles.{IsReadFile}
@@ -51,7 +51,7 @@ hello_instrs =
     ∷ record { pc = 5; opcode = 0xB1; wide = false; operands = [] } ∷ []
 
 code_read : code_reading hello_code.code hello_code.table ≡ Ok hello_instrs
-unfolding opened_parts opened_code_grammar opened_code_reading opened_opcodes repeated bytes_of number
+unfolding opened_parts opened_code_grammar is_marked leads_astray is_good_range code_reading opened_opcodes repeated bytes_of number
 code_read = refl
 
 -- it is read, with its code
