@@ -1,4 +1,4 @@
--- Small linked systems, and the texts that computed rows compare.
+-- Small linked systems, and the texts that computed cases compare.
 use Rattle.std.specs.Prelude.{ℕ, zero, suc, List, [], ◌∷◌, ◌++◌, Some, None, codes}
 use Rattle.jx_base.specs.declared.act.Entry.{Entry}
 use Rattle.jx_base.specs.declared.act.History.{History}

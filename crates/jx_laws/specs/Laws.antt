@@ -1,17 +1,12 @@
 -- The laws of admitted histories.
-use Rattle.std.specs.Prelude.{◌≡◌, ℕ, ◌≤◌, ◌<◌, ◌^◌, ◌↔◌, false, List, [], ◌∷◌, ◌++◌, Some, ◌⊎◌, IsTrue, IfSome, slice_get}
-use Rattle.std.specs.List.{AllByRecursion}
+use Rattle.std.specs.Prelude.{◌≡◌, ℕ, ◌≤◌, ◌↔◌, false, List, [], ◌∷◌, ◌++◌, Some, ◌⊎◌, IsTrue, IfSome, slice_get}
 use Rattle.jx_base.specs.declared.act.Act.{Act}
 use Rattle.jx_base.specs.declared.act.Act.TheVariants as act
 use Rattle.jx_base.specs.declared.act.Reply.{Reply}
 use Rattle.jx_base.specs.declared.act.Reply.TheVariants as reply
 use Rattle.jx_base.specs.declared.act.Refusal.TheVariants as refusal
 use Rattle.jx_base.specs.declared.act.Entry.{Entry}
-use Rattle.jx_base.specs.declared.act.History.{History}
-use Rattle.jx_base.specs.declared.program.Class.{Class}
-use Rattle.jx_base.specs.declared.program.Selector.{Selector}
 use Rattle.jx_base.specs.declared.program.System.{System}
-use Rattle.jx_base.specs.declared.program.Template.{Template}
 use Rattle.jx_base.specs.Basics.{contains_number, passes}
 use Rattle.jx_base.specs.Histories.{Past, is_done}
 use Rattle.jx_model.specs.Moments.{IsMoment, NonePasses}
@@ -22,8 +17,7 @@ use Rattle.jx_model.specs.MemoryObjects.{lineage_of, objects_of, ended_object, i
 use Rattle.jx_model.specs.Holding.{is_of_extent, hold_count, is_extent_in_use}
 use Rattle.jx_model.specs.Granules.{Run, used_runs, lies_in}
 use Rattle.jx_model.specs.Replies.{answer_reply, holds_all, job_of}
-use Rattle.jx_model.specs.Legal.{IsAdmitted}
-use Rattle.audit_model.specs.AuditText.{audit_text, call_line}
+use Rattle.audit_model.specs.AuditText.{call_line}
 use Rattle.std.specs.Option.{option_and_then, option_map}
 
 -- ---- revocation

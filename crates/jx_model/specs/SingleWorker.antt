@@ -91,7 +91,7 @@ pub record IsSingleWorkerHistory (s : System) (h : History) : Type 0 where
   pub complete : IsComplete s h
   pub picked : PicksEach s (past_of h)
 
--- ---- the same as a function, for computed rows
+-- ---- the same as a function, for computed cases
 
 -- the entry of that act: with its thread, and the reply to it
 unfoldable pub entry_for : System → Past → ℕ → Act → Entry

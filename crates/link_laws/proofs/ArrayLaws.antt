@@ -26,7 +26,6 @@ use Rattle.program_model.specs.Lookup.{class_at, class_named, constant_at, metho
 use Rattle.program_model.specs.Types.{element_type}
 use Rattle.jx_base.proofs.BasicLaws.{both, eq_of}
 use Rattle.link_laws.specs.Arrays.{IsTypeIn, IsElementOf, HasArraysOf, ArraysHold}
-
 use Rattle.link_laws.proofs.Classes.{name_of, all_names, array_begins, is_own, is_plain, built_in_own, own_plain, others_plain, plan_others}
 use Rattle.link_laws.proofs.Elements.{array_elements_in, named_there}
 use Rattle.link_laws.proofs.Fitting.{contained, array_itself, file_usable, file_uses, file_arrays, code_arrays, instr_arrays, use_told}

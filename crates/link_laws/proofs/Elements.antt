@@ -27,7 +27,6 @@ use Rattle.program_model.specs.Types.{innermost_type, is_number_type, is_referen
 use Rattle.jx_base.specs.Basics.{contains_number}
 use Rattle.jx_base.proofs.BasicLaws.{both, eq_of}
 use Rattle.link_laws.specs.Arrays.{IsTypeIn}
-
 use Rattle.link_laws.proofs.Arrays.{named_by, IsMentioned, ByInstr, ByCatch, array_of_name, of_element}
 use Rattle.link_laws.proofs.Classes.{name_of, all_names, system_names, array_begins}
 use Rattle.link_laws.proofs.Fitting.{array_itself, file_usable, file_uses, file_arrays, code_arrays}

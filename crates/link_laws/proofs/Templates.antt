@@ -8,7 +8,7 @@ use Rattle.jx_base.specs.declared.class_file.ClassFile.{ClassFile}
 use Rattle.jx_base.specs.declared.program.Plan.{Plan}
 use Rattle.jx_base.specs.declared.program.System.{System}
 use Rattle.jx_base.specs.declared.program.Template.{Template}
-use Rattle.jx_base.specs.Basics.{firsts, distinct}
+use Rattle.jx_base.specs.Basics.{distinct}
 use Rattle.link_model.specs.ClassFiles.{this_name, super_name, interface_names}
 use Rattle.link_model.specs.Linking.{outline}
 use Rattle.link_model.specs.LinkFaults.{LinkFault, LinkKind, NoClass, SuperLoop, Twice, WrongName, fault_if, first_fault, named_fault, listed_name, listing_at, Listing, may_extend, may_implement, is_above_itself, repeated_name, class_fault, main_fault, uses_fault, template_fault, first_link_fault, IsLinked}

@@ -3,7 +3,6 @@
 ghost use Rattle.program_model.specs.DistinctNames.{HasDistinctNames};
 ghost use Rattle.link_model.specs.LinkFaults.{IsLinked};
 ghost use Rattle.link_laws.specs.Arrays.{ArraysHold};
-
 ghost use Rattle.link_laws.specs.Meanings.{ConstantsFit};
 ghost use Rattle.link_laws.specs.Methods.{MethodsHold, StartsHold};
 ghost use Rattle.link_laws.specs.Supers.{InterfacesHold, ListsHold, SupersHold};

@@ -120,7 +120,7 @@ exported s e past d (act.Export iface k) (reply.Service service c) admitted q f 
         let number : service.0 ≡ services_made past + 1 = ap (λ (k : ServiceId). k.0) n in (
           omega (arith, number, services_few s past admitted),
           ap (λ (o : Option Entry). option_and_then (λ x. exported_interface x.act x.reply) o)
-          (nth_new is_export e past service.0 (ap is_some both_are) number) ∙ both_are,
+              (nth_new is_export e past service.0 (ap is_some both_are) number) ∙ both_are,
         )
 exported s e past d _ r admitted q f g = tt
 

@@ -1,5 +1,5 @@
 -- Code of bytes.
-use Rattle.std.specs.Prelude.{◌≡◌, ℕ, ◌<◌, List, Some, IfSome}
+use Rattle.std.specs.Prelude.{◌≡◌, ℕ, List, Some, IfSome}
 use Rattle.std.specs.List.{AllByRecursion}
 use Rattle.class_grammar.specs.ReadFiles.{AreBytes}
 use Rattle.jx_base.specs.declared.class_file.ClassFile.{ClassFile}
