@@ -1,6 +1,7 @@
 //! Two domains are made, and each prints in a thread of its own.
 ghost use Rattle.std.specs.Prelude.{◌≡◌, ◌+◌, false, length, Some, IfOk};
-ghost use Rattle.turn_lock.specs.Entries.{own_entries, last_born};
+ghost use Rattle.jx_base.specs.Histories.{own_entries};
+ghost use Rattle.turn_lock.specs.Entries.{last_born};
 ghost use Rattle.test_turn_lock.specs.Systems.{empty_system_value};
 
 use crate::plain_list::{PlainList, empty_system};

@@ -7,7 +7,8 @@ use Rattle.std.proofs.lemmas.List.Elements.{filter-append}
 use mathlib.Core.List.{IsPrefix}
 use Rattle.jx_base.specs.declared.act.Entry.{Entry}
 use Rattle.jx_base.specs.Births.{answered_domain, answered_domains, IsNumbered}
-use Rattle.turn_lock.specs.Entries.{is_own, own_entries, last_born, IsMade, Extends}
+use Rattle.jx_base.specs.Histories.{is_own, own_entries}
+use Rattle.turn_lock.specs.Entries.{last_born, IsMade, Extends}
 use Rattle.turn_lock.specs.Views.{longer}
 use Rattle.turn_lock.proofs.Lists.{prefix_self, prefix_shorter, nothing_added, none_added, slice_get-push_cases, Contains-cases, Contains-head, Contains-later}
 use Rattle.turn_lock.proofs.Births.{AllDiffer, AllDiffer-tail, AllDiffer-head, made_more, last_is_new, last_is_positive}
@@ -15,15 +16,19 @@ use Rattle.turn_lock.proofs.Births.{AllDiffer, AllDiffer-tail, AllDiffer-head, m
 -- ---- own entries
 
 pub own_entries-append : (d : ℕ) (xs ys : List Entry) → own_entries (xs ++ ys) d ≡ own_entries xs d ++ own_entries ys d
+unfolding own_entries is_own
 own_entries-append d xs ys = filter-append (is_own d) xs ys
 
 own_head : (d : ℕ) (e : Entry) (es : List Entry) (b : Bool) → eqb e.domain.0 d ≡ b → own_entries (e ∷ es) d ≡ cond b (e ∷ own_entries es d) (own_entries es d)
+unfolding own_entries is_own
 own_head d e es b is = ap (λ (t : Bool). cond t (e ∷ own_entries es d) (own_entries es d)) is
 
 pub own_other : (d : ℕ) (xs : List Entry) (e : Entry) → e.domain.0 ≢ d → own_entries (xs ++ e ∷ []) d ≡ own_entries xs d
+unfolding own_entries is_own
 own_other d xs e ne = own_entries-append d xs (e ∷ []) ∙ (ap (λ w. own_entries xs d ++ w) (own_head d e [] false (ne_eqb e.domain.0 d ne)) ∙ append-nil (own_entries xs d))
 
 pub own_mine : (d : ℕ) (xs : List Entry) (e : Entry) → e.domain.0 ≡ d → own_entries (xs ++ e ∷ []) d ≡ own_entries xs d ++ e ∷ []
+unfolding own_entries is_own
 own_mine d xs e is = own_entries-append d xs (e ∷ []) ∙ ap (λ w. own_entries xs d ++ w) (own_head d e [] true (eq-eqb e.domain.0 d is))
 
 -- a list between two that have the same entries of d has these entries too
@@ -41,10 +46,12 @@ pub own_none_before : (d : ℕ) (xs zs : List Entry) → IsPrefix xs zs → own_
 own_none_before d xs zs p e = none_added (own_entries xs d) (own_entries p.0 d) (sym (own_entries-append d xs p.0) ∙ (ap (λ (es : List Entry). own_entries es d) p.1 ∙ e))
 
 own_none : (d : ℕ) (es : List Entry) → ((i : ℕ) (x : Entry) → slice_get es i ≡ Some x → x.domain.0 ≢ d) → own_entries es d ≡ []
+unfolding own_entries is_own
 own_none d [] never = refl
 own_none d (e ∷ es) never = own_head d e es false (ne_eqb e.domain.0 d (never 0 e refl)) ∙ own_none d es (λ i x at. never (suc i) x at)
 
 length-own_entries : (d : ℕ) (es : List Entry) → length (own_entries es d) ≤ length es
+unfolding own_entries is_own
 length-own_entries d [] = omega arith
 length-own_entries d (e ∷ es) = by_test d e es (eqb e.domain.0 d) refl (length-own_entries d es) where
   by_test : (d : ℕ) (e : Entry) (es : List Entry) (b : Bool) → eqb e.domain.0 d ≡ b → length (own_entries es d) ≤ length es → length (own_entries (e ∷ es) d) ≤ suc (length es)
@@ -130,6 +137,7 @@ answered_later None ds d c = c
 answered_later (Some n) ds d c = Contains-later n ds d c
 
 maker_cases : (e : Entry) (es : List Entry) (c d : ℕ) → Contains (answered_domains (own_entries (e ∷ es) c)) d → MadeHere e c d ⊎ Contains (answered_domains (own_entries es c)) d
+unfolding own_entries is_own
 maker_cases e es c d k = by_test (eqb e.domain.0 c) refl where
   by_test : (b : Bool) → eqb e.domain.0 c ≡ b → MadeHere e c d ⊎ Contains (answered_domains (own_entries es c)) d
   by_test true is = ⊎_elim (λ (t : answered_domain e ≡ Some d). inl (eqb-true e.domain.0 c is, t)) (λ (t : Contains (answered_domains (own_entries es c)) d). inr t)
@@ -138,6 +146,7 @@ maker_cases e es c d k = by_test (eqb e.domain.0 c) refl where
 
 -- what an own entry made, an entry of the whole made
 pub own_made : (es : List Entry) (c d : ℕ) → Contains (answered_domains (own_entries es c)) d → Contains (answered_domains es) d
+unfolding own_entries is_own
 own_made [] c d k = k
 own_made (e ∷ es) c d k = ⊎_elim
     (λ (t : MadeHere e c d). subst (λ (o : Option ℕ). Contains (cons_option o (answered_domains es)) d) (sym t.1) (Contains-head d (answered_domains es) d refl))
@@ -153,6 +162,7 @@ not_twice e es d a made c = AllDiffer-head d (answered_domains es) d (subst (λ 
 
 -- entries of two domains do not make one domain
 pub one_maker : (es : List Entry) (b c d : ℕ) → AllDiffer (answered_domains es) → Contains (answered_domains (own_entries es b)) d → Contains (answered_domains (own_entries es c)) d → b ≡ c
+unfolding own_entries is_own
 one_maker [] b c d a (k, lt, is) l = absurd (omega arith)
 one_maker (e ∷ es) b c d a k l = ⊎_elim
     (λ (t : MadeHere e b d). ⊎_elim

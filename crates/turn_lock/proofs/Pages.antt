@@ -8,7 +8,8 @@ use Rattle.jx_base.specs.declared.program.System.{System}
 use Rattle.jx_base.specs.Births.{answered_domain, IsNumbered}
 use Rattle.turn_lock.specs.declared.view.Page.{Page}
 use Rattle.turn_lock.specs.declared.view.View.{View}
-use Rattle.turn_lock.specs.Entries.{own_entries, last_born, IsMade, Extends}
+use Rattle.jx_base.specs.Histories.{own_entries}
+use Rattle.turn_lock.specs.Entries.{last_born, IsMade, Extends}
 use Rattle.turn_lock.specs.Views.{left_view, new_view, passed_view, joined_view, spent_view, longer}
 use Rattle.turn_lock.specs.Rule.{Phase, PageFits, PagesFit, HasTicket, TicketsFit}
 use Rattle.turn_lock.proofs.Lists.{prefix_self, prefix_more, one_there}

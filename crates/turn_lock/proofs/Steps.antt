@@ -17,7 +17,8 @@ use Rattle.turn_lock.specs.declared.view.Page.{Page}
 use Rattle.turn_lock.specs.declared.view.View.{View}
 use Rattle.turn_lock.specs.declared.view.Stage.{Stage}
 use Rattle.turn_lock.specs.declared.view.Stage.TheVariants.{Idle, Waiting, Served, Holding}
-use Rattle.turn_lock.specs.Entries.{own_entries, last_born, IsMade, Extends}
+use Rattle.jx_base.specs.Histories.{is_own, own_entries}
+use Rattle.turn_lock.specs.Entries.{last_born, IsMade, Extends}
 use Rattle.turn_lock.specs.Views.{first_view, at_stage, served_view, passed_view, left_view, right_view, new_view, joined_view, spent_view}
 use Rattle.turn_lock.specs.Steps.{word_modulus, Place, Draws, Looks, MovesOn, Puts, Fetches, PassesOn, Learns}
 use Rattle.turn_lock.specs.Rule.{Phase, home, away, bare, PageFits, StageFits, HasTicket, TicketsFit, SlotFits, IsRuled}
@@ -281,6 +282,7 @@ module _ {T : Type 0} (system : T → System) (entries : T → List Entry) (key 
   allows_learn slots id me live s r _ at _ = let k = r.pages.fits id me.0 at live in (me.0, keeps, tt, unchanged s r 0 id me.0 me.1 at, (refl, k.join, k.own))
 
   pub opens_ruled : (x : T) → system x ≡ key → entries x ≡ [] → Rule (opening (0 ∷ 0 ∷ []) (Some x ∷ []) (first_view key))
+  unfolding own_entries is_own
   opens_ruled x sys none_yet =
       let first : View = first_view key in
       let only : (P : ℕ → View → Type 0) → P 0 first → (j : ℕ) (v : View) → get_elem? (first ∷ []) j ≡ some v → P j v = λ P p j v e. seats_more P [] first p (λ j v e. absurd (some-ne-none v (sym e))) j v e in

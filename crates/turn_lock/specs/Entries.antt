@@ -1,17 +1,9 @@
--- Lists of entries, the first one first.
-use Rattle.std.specs.Prelude.{◌≡◌, ℕ, ◌==◌, Bool, ◌⊎◌, List, [], ◌∷◌, ◌++◌, Option, None, Contains, filter}
+-- Which domains a list of entries made, and how it grows. The first entry is first.
+use Rattle.std.specs.Prelude.{◌≡◌, ℕ, ◌⊎◌, List, [], ◌∷◌, ◌++◌, Option, None, Contains}
 use Rattle.std.specs.List.{last_or}
 use Rattle.std.specs.Option.{option_and_then}
 use Rattle.jx_base.specs.declared.act.Entry.{Entry}
 use Rattle.jx_base.specs.Births.{answered_domain, answered_domains}
-
--- the entry is one of the domain's
-abbrev pub is_own : ℕ → Entry → Bool
-is_own domain entry = entry.domain.0 == domain
-
--- the entries of the domain, in order
-abbrev pub own_entries : List Entry → ℕ → List Entry
-own_entries entries domain = filter (is_own domain) entries
 
 -- the domain that the last entry is answered with
 abbrev pub last_born : List Entry → Option ℕ

@@ -13,7 +13,8 @@ use Rattle.turn_lock.specs.declared.view.Page.{Page}
 use Rattle.turn_lock.specs.declared.view.View.{View}
 use Rattle.turn_lock.specs.declared.view.Stage.{Stage}
 use Rattle.turn_lock.specs.declared.view.Stage.TheVariants.{Idle, Waiting, Served, Holding}
-use Rattle.turn_lock.specs.Entries.{own_entries, last_born, IsMade}
+use Rattle.jx_base.specs.Histories.{own_entries}
+use Rattle.turn_lock.specs.Entries.{last_born, IsMade}
 use Rattle.turn_lock.specs.Steps.{word_modulus, ShowsJoin}
 
 -- where the value is: in the slot; out, with the slot at a seat; out, with the slot back

@@ -7,7 +7,7 @@ use Rattle.jx_base.specs.declared.program.System.{System}
 use Rattle.turn_lock.specs.declared.view.View.{View}
 use Rattle.turn_lock.specs.declared.view.Stage.{Stage}
 use Rattle.turn_lock.specs.declared.view.Stage.TheVariants.{Idle, Waiting, Served, Holding}
-use Rattle.turn_lock.specs.Entries.{own_entries}
+use Rattle.jx_base.specs.Histories.{own_entries}
 use Rattle.turn_lock.specs.Views.{no_system, stays_parted, longer}
 
 -- which lock it is, and for which system

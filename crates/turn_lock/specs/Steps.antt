@@ -9,7 +9,8 @@ use Rattle.turn_lock.specs.declared.view.Page.{Page}
 use Rattle.turn_lock.specs.declared.view.View.{View}
 use Rattle.turn_lock.specs.declared.view.Stage.{Stage}
 use Rattle.turn_lock.specs.declared.view.Stage.TheVariants.{Waiting, Served, Holding}
-use Rattle.turn_lock.specs.Entries.{own_entries, IsMade}
+use Rattle.jx_base.specs.Histories.{own_entries}
+use Rattle.turn_lock.specs.Entries.{IsMade}
 use Rattle.turn_lock.specs.Views.{at_stage, served_view, passed_view}
 
 -- words count modulo this

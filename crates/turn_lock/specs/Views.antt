@@ -6,7 +6,8 @@ use Rattle.turn_lock.specs.declared.view.Page.{Page}
 use Rattle.turn_lock.specs.declared.view.View.{View}
 use Rattle.turn_lock.specs.declared.view.Stage.{Stage}
 use Rattle.turn_lock.specs.declared.view.Stage.TheVariants.{Idle, Served}
-use Rattle.turn_lock.specs.Entries.{own_entries, last_born}
+use Rattle.jx_base.specs.Histories.{own_entries}
+use Rattle.turn_lock.specs.Entries.{last_born}
 
 -- the system of a page that nobody has
 unfoldable pub no_system : System

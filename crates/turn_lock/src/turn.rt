@@ -2,7 +2,8 @@
 ghost use Rattle.std.specs.Prelude.{◌≡◌, ℕ, true, false, [], ◌∷◌, length, Some, IsOk, IfOk};
 ghost use mathlib.Core.List.{IsPrefix};
 ghost use Rattle.jx_base.specs.Births.{IsNumbered};
-ghost use Rattle.turn_lock.specs.Entries.{own_entries, last_born, Extends, IsMade};
+ghost use Rattle.jx_base.specs.Histories.{own_entries};
+ghost use Rattle.turn_lock.specs.Entries.{last_born, Extends, IsMade};
 ghost use Rattle.turn_lock.specs.Views.{at_stage, left_view, right_view, passed_view, joined_view};
 ghost use Rattle.turn_lock.specs.Steps.{IsServed, ShowsJoin};
 ghost use Rattle.turn_lock.specs.declared.view.Stage.TheVariants.{Idle, Served, Holding};
@@ -92,6 +93,7 @@ impl<T: Chronicle> Turn<T> {
     ghost use Rattle.turn_lock.specs.Standing.{SeesOwn, first_standing, parted_from, part_of, IsTaken, IsGiven, IsJoined};
 
     /// A new lock, and Domain Zero's pass. The value goes where there is no memory.
+    #[tactic(auto, unfolding(jx_base::specs::Histories::own_entries))]
     pub fn open(alloc: Global, system: &System, value: T) -> Result<(Turn<T>, Pass), OutOfMemory>
     where
         T: Drop,
@@ -132,6 +134,7 @@ impl<T: Chronicle> Turn<T> {
     }
 
     /// Puts the value back, as it was or with one entry more, and ends the turn.
+    #[tactic(auto, unfolding(jx_base::specs::Histories::is_own, jx_base::specs::Histories::own_entries))]
     pub fn give(&self, pass: &mut Pass, value: T)
         requires lock { pass.old.lock ≡ self.now }
         requires holds { pass.old.holds ≡ true }
