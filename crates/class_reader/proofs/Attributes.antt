@@ -6,10 +6,10 @@ use Rattle.jx_base.specs.declared.class_file.Constant.{Constant}
 use Rattle.jx_base.specs.declared.fault.ClassFault.{ClassFault}
 use Rattle.class_grammar.specs.Parts.{onward}
 use Rattle.class_grammar.specs.Members.{method_attributes}
-use Rattle.class_reader.specs.declared.error.ReadFault.{ReadFault}
-use Rattle.class_reader.specs.declared.error.ReadFault.TheVariants as fault
+use Rattle.jx_base.specs.declared.error.Error.{Error}
+use Rattle.jx_base.specs.declared.error.Error.TheVariants as error
 use Rattle.class_reader.specs.Attributes.{method_attribute}
-use Rattle.class_reader.specs.Reading.{Fails}
+use Rattle.jx_base.specs.Answers.{Fails}
 
 abbrev Read : Type 0 → Type 0
 Read A = Result (A × List ℕ) ClassFault
@@ -36,10 +36,10 @@ module _ (size : ℕ) (constants : List Constant) (may_have : Bool) where
       let k : n - i ≡ suc (n - (i + 1)) = omega arith in
       sym (ap (λ m. (method_attributes size constants may_have m code).reads text) k ∙ one_more (n - (i + 1)) code text ∙ ap (λ (r : Read (Option Code)). onward r (λ c rest. (method_attributes size constants may_have (n - (i + 1)) c).reads rest)) h) ∙ so_far
 
-  pub ends : (e : ReadFault) (n i : ℕ) (code : Option Code) (text : List ℕ) (total : Read (Option Code)) → i < n → Fails e ((method_attribute size constants may_have code).reads text)
+  pub ends : (e : Error ClassFault) (n i : ℕ) (code : Option Code) (text : List ℕ) (total : Read (Option Code)) → i < n → Fails e ((method_attribute size constants may_have code).reads text)
       → (method_attributes size constants may_have (n - i) code).reads text ≡ total → Fails e total
-  ends fault.OutOfMemory n i code text total lt h so_far = tt
-  ends (fault.Bad f) n i code text total lt h so_far =
+  ends error.OutOfMemory n i code text total lt h so_far = tt
+  ends (error.Bad f) n i code text total lt h so_far =
       let k : n - i ≡ suc (n - (i + 1)) = omega arith in
       sym so_far ∙ (ap (λ m. (method_attributes size constants may_have m code).reads text) k ∙ one_more (n - (i + 1)) code text ∙ ap (λ (r : Read (Option Code)). onward r (λ c rest. (method_attributes size constants may_have (n - (i + 1)) c).reads rest)) h)
 

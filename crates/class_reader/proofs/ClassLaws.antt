@@ -14,10 +14,10 @@ use Rattle.class_grammar.specs.Members.{name_part, class_index, skipped_attribut
 use Rattle.class_grammar.specs.ClassGrammar.{version_part, pool_part, interface_part, heading_part, fields_part, methods_part, class_file_part, IsClassFile, IsClassFault}
 use Rattle.class_grammar.proofs.PartLaws.{IsLawful, Tells, lawful-bind, lawful-then, lawful-either, lawful-done, lawful-demand, lawful-no_fault, lawful-known, lawful-meant, lawful-room, lawful-here, lawful-at_end, lawful-bytes_of, lawful-number, lawful-repeated, lawful-enclosed}
 use Rattle.class_grammar.specs.ModifiedUtf8.{IsModifiedUtf8, text_of_bytes}
-use Rattle.class_reader.specs.declared.error.ReadFault.{ReadFault}
-use Rattle.class_reader.specs.declared.error.ReadFault.TheVariants as fault
+use Rattle.jx_base.specs.declared.error.Error.{Error}
+use Rattle.jx_base.specs.declared.error.Error.TheVariants as error
 use Rattle.class_reader.specs.Classes.{IsFaultOf, IsReadAs, IsRefusedFor}
-use Rattle.class_reader.specs.Reading.{Gives}
+use Rattle.jx_base.specs.Answers.{Gives}
 use Rattle.class_texts.proofs.TextLaws.{text_law}
 use Rattle.class_texts.proofs.DescriptorLaws.{field_law, method_law}
 
@@ -205,24 +205,24 @@ module _ (bytes : List ℕ) where
   abbrev reading : Result (ClassFile × List ℕ) ClassFault
   reading = (class_file_part (length bytes)).reads bytes
 
-  pub found : (answer : Result ClassFile ReadFault) → Gives (λ file. (file, [])) answer reading → IfOk answer (IsClassFile bytes)
+  pub found : (answer : Result ClassFile (Error ClassFault)) → Gives (λ file. (file, [])) answer reading → IfOk answer (IsClassFile bytes)
   found (Ok file) h = (lawful_class_file (length bytes)).found bytes file [] h
   found (Err e) h = tt
 
-  pub fault_found : (answer : Result ClassFile ReadFault) → Gives (λ file. (file, [])) answer reading → IfErr answer (IsFaultOf bytes)
+  pub fault_found : (answer : Result ClassFile (Error ClassFault)) → Gives (λ file. (file, [])) answer reading → IfErr answer (IsFaultOf bytes)
   fault_found (Ok file) h = tt
-  fault_found (Err (fault.Bad f)) h = (lawful_class_file (length bytes)).failed bytes f h
-  fault_found (Err fault.OutOfMemory) h = tt
+  fault_found (Err (error.Bad f)) h = (lawful_class_file (length bytes)).failed bytes f h
+  fault_found (Err error.OutOfMemory) h = tt
 
-  pub only : (answer : Result ClassFile ReadFault) → Gives (λ file. (file, [])) answer reading → (file : ClassFile) → IsClassFile bytes file → IsReadAs file answer
+  pub only : (answer : Result ClassFile (Error ClassFault)) → Gives (λ file. (file, [])) answer reading → (file : ClassFile) → IsClassFile bytes file → IsReadAs file answer
   only (Ok got) h file is = ok_is got file (sym h ∙ (lawful_class_file (length bytes)).only bytes file [] is)
-  only (Err (fault.Bad f)) h file is = not_both file f (sym ((lawful_class_file (length bytes)).only bytes file [] is) ∙ h)
-  only (Err fault.OutOfMemory) h file is = tt
+  only (Err (error.Bad f)) h file is = not_both file f (sym ((lawful_class_file (length bytes)).only bytes file [] is) ∙ h)
+  only (Err error.OutOfMemory) h file is = tt
 
-  pub only_fault : (answer : Result ClassFile ReadFault) → Gives (λ file. (file, [])) answer reading → (at : ℕ) (kind : ClassKind) → IsClassFault bytes at kind → IsRefusedFor at kind answer
+  pub only_fault : (answer : Result ClassFile (Error ClassFault)) → Gives (λ file. (file, [])) answer reading → (at : ℕ) (kind : ClassKind) → IsClassFault bytes at kind → IsRefusedFor at kind answer
   only_fault (Ok got) h at kind is = not_both got (class_fault at kind) (sym h ∙ (lawful_class_file (length bytes)).fails_only bytes (class_fault at kind) is)
-  only_fault (Err (fault.Bad f)) h at kind is = err_is f (class_fault at kind) (sym h ∙ (lawful_class_file (length bytes)).fails_only bytes (class_fault at kind) is)
-  only_fault (Err fault.OutOfMemory) h at kind is = tt
+  only_fault (Err (error.Bad f)) h at kind is = err_is f (class_fault at kind) (sym h ∙ (lawful_class_file (length bytes)).fails_only bytes (class_fault at kind) is)
+  only_fault (Err error.OutOfMemory) h at kind is = tt
 
   -- ---- one reading
 

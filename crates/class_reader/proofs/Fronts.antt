@@ -3,15 +3,15 @@ use Rattle.std.proofs.Common.{◌≡◌, ℕ, ◌-◌, ◌<◌, List, [], Result
 use Rattle.jx_base.specs.declared.fault.ClassFault.{ClassFault}
 use Rattle.class_grammar.specs.Parts.{Part, repeated, with_front}
 use Rattle.class_grammar.proofs.Repeats.{goes_on, ends, is_done}
-use Rattle.class_reader.specs.declared.error.ReadFault.{ReadFault}
-use Rattle.class_reader.specs.declared.error.ReadFault.TheVariants as fault
-use Rattle.class_reader.specs.Reading.{Fails}
+use Rattle.jx_base.specs.declared.error.Error.{Error}
+use Rattle.jx_base.specs.declared.error.Error.TheVariants as error
+use Rattle.jx_base.specs.Answers.{Fails}
 
 -- part i fails: so do they all
-pub all_fail : {A : Type 0} (p : Part (List A) ClassFault) (e : ReadFault) (front : List A) (n i : ℕ) (text : List ℕ) (total : Result (List A × List ℕ) ClassFault)
+pub all_fail : {A : Type 0} (p : Part (List A) ClassFault) (e : Error ClassFault) (front : List A) (n i : ℕ) (text : List ℕ) (total : Result (List A × List ℕ) ClassFault)
     → i < n → Fails e (p.reads text) → with_front front ((repeated (n - i) p).reads text) ≡ total → Fails e total
-all_fail p fault.OutOfMemory front n i text total lt h so_far = tt
-all_fail p (fault.Bad f) front n i text total lt h so_far = ends p f front n i text total lt h so_far
+all_fail p error.OutOfMemory front n i text total lt h so_far = tt
+all_fail p (error.Bad f) front n i text total lt h so_far = ends p f front n i text total lt h so_far
 
 -- nothing was read before
 pub begins : {A F : Type 0} (read : Result (List A × List ℕ) F) → with_front [] read ≡ read

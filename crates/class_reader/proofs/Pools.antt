@@ -9,10 +9,10 @@ use Rattle.jx_base.specs.declared.fault.ClassFault.{ClassFault}
 use Rattle.jx_base.specs.declared.fault.ClassKind.TheVariants as kind
 use Rattle.class_grammar.specs.Parts.{onward, with_front}
 use Rattle.class_grammar.specs.Constants.{class_fault, constant_part, constants_part, constant_length, is_double_width, names_rightly, misnaming_fault}
-use Rattle.class_reader.specs.declared.error.ReadFault.{ReadFault}
-use Rattle.class_reader.specs.declared.error.ReadFault.TheVariants as fault
+use Rattle.jx_base.specs.declared.error.Error.{Error}
+use Rattle.jx_base.specs.declared.error.Error.TheVariants as error
 use Rattle.class_reader.specs.Pools.{index_count, entries, constants_length}
-use Rattle.class_reader.specs.Reading.{Fails}
+use Rattle.jx_base.specs.Answers.{Fails}
 
 abbrev pub Read : Type 0
 Read = Result (List Constant × List ℕ) ClassFault
@@ -88,13 +88,13 @@ unfolding index_count
 ends_wide size left text front c after total pos lt e so_far = ends_by size left text front c after total (is_double_width c) refl pos lt e so_far
 
 -- it can't be read
-pub ends : (error : ReadFault) (size left : ℕ) (text : List ℕ) (front : List Constant) (total : Read) → 0 < left → Fails error ((constant_part size).reads text)
-    → with_front front ((constants_part size left).reads text) ≡ total → Fails error total
+pub ends : (e : Error ClassFault) (size left : ℕ) (text : List ℕ) (front : List Constant) (total : Read) → 0 < left → Fails e ((constant_part size).reads text)
+    → with_front front ((constants_part size left).reads text) ≡ total → Fails e total
 unfolding constants_part
-ends fault.OutOfMemory size left text front total pos h so_far = tt
-ends (fault.Bad f) size zero text front total pos h so_far = absurd (omega arith)
-ends (fault.Bad f) size (suc zero) text front total pos h so_far = sym so_far ∙ (rw h refl)
-ends (fault.Bad f) size (suc (suc n)) text front total pos h so_far = sym so_far ∙ (rw h refl)
+ends error.OutOfMemory size left text front total pos h so_far = tt
+ends (error.Bad f) size zero text front total pos h so_far = absurd (omega arith)
+ends (error.Bad f) size (suc zero) text front total pos h so_far = sym so_far ∙ (rw h refl)
+ends (error.Bad f) size (suc (suc n)) text front total pos h so_far = sym so_far ∙ (rw h refl)
 
 pub is_done : (size left : ℕ) (text : List ℕ) (front : List Constant) (total : Read) → left ≤ 0
     → with_front front ((constants_part size left).reads text) ≡ total → total ≡ Ok (front, text)

@@ -1,5 +1,4 @@
 pub mod Attributes
 pub mod Classes
 pub mod Pools
-pub mod Reading
 pub use Rattle.class_texts.specs.Texts

@@ -1,19 +1,18 @@
 //! A whole class file (JVMS 4.1).
 ghost use Rattle.std.specs.Prelude.{◌≡◌, ◌≤◌, ◌-◌, ◌^◌, ℕ, [], ◌∷◌, length, IfOk, IfErr};
 ghost use Rattle.class_reader.specs.Classes.{version, heading, IsFaultOf, IsReadAs, IsRefusedFor};
-ghost use Rattle.class_reader.specs.Reading.{Gives};
+ghost use Rattle.jx_base.specs.Answers.{Gives};
 ghost use Rattle.class_grammar.specs.ClassGrammar.{version_part, interface_part, heading_part, class_file_part, IsClassFile, IsClassFault};
 ghost use Rattle.class_grammar.specs.Constants.{class_fault};
-ghost use Rattle.class_grammar.specs.Flags.{is_interface_flag};
 ghost use Rattle.class_grammar.specs.Parts.{at_end, repeated};
 ghost use Rattle.jx_base.specs.declared.class_file.ClassFile.{ClassFile};
 ghost use Rattle.jx_base.specs.declared.fault.ClassKind.{ClassKind};
 
-use crate::error::{ReadFault, bad, cut_off_fault};
-use crate::members::{fields_at, has_flag, methods_at};
+use crate::error::{ReadFault, bad, cut_off};
+use crate::members::{fields_at, methods_at};
 use crate::names::{class_index_at, skip_attributes};
-use crate::numbers::{place, u16_at, u32_at};
 use crate::pool::pool_at;
+use class_grammar::{is_interface_flag, place, u16_at, u32_at};
 use jx_base::{ClassFile, ClassKind, Constant, Listed};
 use std::alloc::Global;
 
@@ -23,12 +22,12 @@ fn version_at(size: u32, bytes: &[u8]) -> Result<(u16, u16, &[u8]), ReadFault>
     ensures read { Gives (λ x. (version x.0 x.1, x.2.now)) result ((version_part size).reads bytes.now) }
     ensures shorter { IfOk result (λ x. length x.2.now ≤ length bytes.now) }
 {
-    let (magic, rest) = u32_at(cut_off_fault(size), bytes)?;
+    let (magic, rest) = u32_at(cut_off(size), bytes)?;
     if magic != 0xcafebabe {
         return Err(bad(0, ClassKind::Magic));
     }
-    let (minor, rest) = u16_at(cut_off_fault(size), rest)?;
-    let (major, rest) = u16_at(cut_off_fault(size), rest)?;
+    let (minor, rest) = u16_at(cut_off(size), rest)?;
+    let (major, rest) = u16_at(cut_off(size), rest)?;
     if major < 45 || major > 52 {
         return Err(bad(6, ClassKind::Version));
     }
@@ -77,10 +76,10 @@ fn heading_at<'b>(
     ensures read { Gives (λ x. (heading x.0, x.1.now)) result ((heading_part size constants.now).reads bytes.now) }
     ensures shorter { IfOk result (λ x. length x.1.now ≤ length bytes.now) }
 {
-    let (flags, rest) = u16_at(cut_off_fault(size), bytes)?;
+    let (flags, rest) = u16_at(cut_off(size), bytes)?;
     let (this_class, rest) = class_index_at(size, constants, rest)?;
     let (super_class, rest) = class_index_at(size, constants, rest)?;
-    let (count, rest) = u16_at(cut_off_fault(size), rest)?;
+    let (count, rest) = u16_at(cut_off(size), rest)?;
     let (interfaces, rest) = interfaces_at(alloc, size, constants, count, rest)?;
     let heading = Heading {
         flags,
@@ -89,13 +88,6 @@ fn heading_at<'b>(
         interfaces,
     };
     Ok((heading, rest))
-}
-
-#[tactic(auto, unfolding(class_grammar::specs::Flags::is_interface_flag))]
-fn is_interface(flags: u16) -> bool
-    ensures { result ≡ is_interface_flag flags }
-{
-    has_flag(0x0200, flags)
 }
 
 /// Nothing is left.
@@ -120,12 +112,12 @@ fn class_at(alloc: Global, size: u32, bytes: &[u8]) -> Result<ClassFile, ReadFau
     let (minor, major, rest) = version_at(size, bytes)?;
     let (constants, rest) = pool_at(alloc, size, rest)?;
     let (heading, rest) = heading_at(alloc, size, constants.as_slice(), rest)?;
-    let (count, rest) = u16_at(cut_off_fault(size), rest)?;
+    let (count, rest) = u16_at(cut_off(size), rest)?;
     let (fields, rest) = fields_at(alloc, size, constants.as_slice(), count, rest)?;
-    let interface = is_interface(heading.flags);
-    let (count, rest) = u16_at(cut_off_fault(size), rest)?;
+    let interface = is_interface_flag(heading.flags);
+    let (count, rest) = u16_at(cut_off(size), rest)?;
     let (methods, rest) = methods_at(alloc, size, constants.as_slice(), interface, count, rest)?;
-    let rest = skip_attributes(size, cut_off_fault(size), constants.as_slice(), rest)?;
+    let rest = skip_attributes(size, cut_off(size), constants.as_slice(), rest)?;
     ends_at(size, rest)?;
     let Heading {
         flags,

@@ -1,13 +1,13 @@
 //! The Code of a method (JVMS 4.7.3). Within it `size` is the place of the attribute's end, and
 //! each fault of its own lengths is `cut`.
 ghost use Rattle.std.specs.Prelude.{◌≡◌, ◌≤◌, ◌+◌, ◌<◌, ◌^◌, [], ◌∷◌, length, IfOk};
-ghost use Rattle.class_reader.specs.Reading.{Gives};
+ghost use Rattle.jx_base.specs.Answers.{Gives};
 ghost use Rattle.class_grammar.specs.Parts.{repeated};
 ghost use Rattle.class_grammar.specs.Members.{catches_class, range_part, code_part, code_body};
 
 use crate::error::{ReadFault, bad, class_fault};
-use crate::names::{is_class_named, skip_attributes};
-use crate::numbers::{bytes_at, place, u16_at, u32_at};
+use crate::names::skip_attributes;
+use class_grammar::{bytes_at, names_class, place, u16_at, u32_at};
 use jx_base::{ClassFault, ClassKind, Code, Constant, Listed, Range};
 use std::alloc::Global;
 
@@ -15,7 +15,7 @@ use std::alloc::Global;
 fn is_caught(constants: &[Constant], index: u16) -> bool
     ensures { result ≡ catches_class constants.now index }
 {
-    index == 0 || is_class_named(constants, index)
+    index == 0 || names_class(constants, index)
 }
 
 #[tactic(auto, unfolding(class_grammar::specs::Members::range_part))]

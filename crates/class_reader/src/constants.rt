@@ -1,10 +1,10 @@
 //! One constant (JVMS 4.4).
 ghost use Rattle.std.specs.Prelude.{◌≡◌, ◌≤◌, ◌<◌, ◌^◌, ◌+◌, length, IfOk};
-ghost use Rattle.class_reader.specs.Reading.{Gives};
+ghost use Rattle.jx_base.specs.Answers.{Gives};
 ghost use Rattle.class_grammar.specs.Constants.{tag_of, index_pair, utf8_body, skipped_body, constant_body, constant_part, constant_length, is_double_width, skipped_length};
 
-use crate::error::{ReadFault, bad, cut_off_fault};
-use crate::numbers::{bytes_at, place, u8_at, u16_at, u32_at, u64_at};
+use crate::error::{ReadFault, bad, cut_off};
+use class_grammar::{bytes_at, place, u8_at, u16_at, u32_at, u64_at};
 use class_texts::{utf8_length, utf8_read};
 use jx_base::{ClassKind, Constant, ConstantTag};
 use std::alloc::Global;
@@ -47,8 +47,8 @@ fn index_pair_at(size: u32, bytes: &[u8]) -> Result<(u16, u16, &[u8]), ReadFault
     ensures read { Gives (λ x. ((x.0, x.1), x.2.now)) result ((index_pair size).reads bytes.now) }
     ensures long { IfOk result (λ x. length bytes.now ≡ 4 + length x.2.now) }
 {
-    let (first, rest) = u16_at(cut_off_fault(size), bytes)?;
-    let (second, rest) = u16_at(cut_off_fault(size), rest)?;
+    let (first, rest) = u16_at(cut_off(size), bytes)?;
+    let (second, rest) = u16_at(cut_off(size), rest)?;
     Ok((first, second, rest))
 }
 
@@ -57,8 +57,8 @@ fn utf8_at(alloc: Global, size: u32, at: u32, bytes: &[u8]) -> Result<(Constant,
     ensures read { Gives (λ x. (x.0, x.1.now)) result ((utf8_body size at).reads bytes.now) }
     ensures long { IfOk result (λ x. 1 + length bytes.now ≡ constant_length x.0 + length x.1.now) }
 {
-    let (n, rest) = u16_at(cut_off_fault(size), bytes)?;
-    let (bytes, rest) = bytes_at(cut_off_fault(size), n as usize, rest)?;
+    let (n, rest) = u16_at(cut_off(size), bytes)?;
+    let (bytes, rest) = bytes_at(cut_off(size), n as usize, rest)?;
     match utf8_read(alloc, bytes)? {
         Some(text) => Ok((Constant::Utf8(text), rest)),
         None => Err(bad(at, ClassKind::Utf8)),
@@ -71,7 +71,7 @@ fn skipped_at(size: u32, number: u8, n: usize, bytes: &[u8]) -> Result<(Constant
     ensures long { IfOk result (λ x. length bytes.now ≡ n + length x.1.now) }
     ensures skipped { IfOk result (λ x. x.0 ≡ Constant.Skipped number) }
 {
-    let (_, rest) = bytes_at(cut_off_fault(size), n, bytes)?;
+    let (_, rest) = bytes_at(cut_off(size), n, bytes)?;
     Ok((Constant::Skipped(number), rest))
 }
 
@@ -90,21 +90,21 @@ fn body_at(
     match tag {
         ConstantTag::Utf8 => utf8_at(alloc, size, at, bytes),
         ConstantTag::Integer => {
-            let (n, rest) = u32_at(cut_off_fault(size), bytes)?;
+            let (n, rest) = u32_at(cut_off(size), bytes)?;
             Ok((Constant::Integer(n.cast_signed()), rest))
         }
         ConstantTag::Float => skipped_at(size, 4, 4, bytes),
         ConstantTag::Long => {
-            let (n, rest) = u64_at(cut_off_fault(size), bytes)?;
+            let (n, rest) = u64_at(cut_off(size), bytes)?;
             Ok((Constant::Long(n.cast_signed()), rest))
         }
         ConstantTag::Double => skipped_at(size, 6, 8, bytes),
         ConstantTag::Class => {
-            let (n, rest) = u16_at(cut_off_fault(size), bytes)?;
+            let (n, rest) = u16_at(cut_off(size), bytes)?;
             Ok((Constant::Class(n), rest))
         }
         ConstantTag::Str => {
-            let (n, rest) = u16_at(cut_off_fault(size), bytes)?;
+            let (n, rest) = u16_at(cut_off(size), bytes)?;
             Ok((Constant::Str(n), rest))
         }
         ConstantTag::Field => {
@@ -137,7 +137,7 @@ pub fn constant_at(alloc: Global, size: u32, bytes: &[u8]) -> Result<(Constant, 
     ensures long { IfOk result (λ x. length bytes.now ≡ constant_length x.0 + length x.1.now) }
 {
     let at = place(size, bytes);
-    let (number, rest) = u8_at(cut_off_fault(size), bytes)?;
+    let (number, rest) = u8_at(cut_off(size), bytes)?;
     match tag_numbered(number) {
         Some(tag) => body_at(alloc, size, at, tag, rest),
         None => Err(bad(at, ClassKind::Tag)),

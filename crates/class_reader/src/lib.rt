@@ -8,7 +8,6 @@ mod error;
 mod laws;
 mod members;
 mod names;
-mod numbers;
 mod pool;
 
 pub use class::read_class;

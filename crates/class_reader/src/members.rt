@@ -2,48 +2,26 @@
 ghost use Rattle.std.specs.Prelude.{◌≡◌, ◌≤◌, ◌<◌, ◌^◌, ◌&&◌, ◌||◌, [], ◌∷◌, None, not, length, IfOk, codes};
 ghost use Rattle.std.specs.Str.{bytes_eq};
 ghost use Rattle.class_reader.specs.Attributes.{method_attribute};
-ghost use Rattle.class_reader.specs.Reading.{Gives};
-ghost use Rattle.class_grammar.specs.Flags.{has_flag, is_abstract, is_native, is_synchronized};
+ghost use Rattle.jx_base.specs.Answers.{Gives};
+ghost use Rattle.class_grammar.specs.Flags.{is_abstract, is_native, is_synchronized};
 ghost use Rattle.class_grammar.specs.Members.{field_part, method_attributes, method_part};
 ghost use Rattle.class_grammar.specs.Parts.{repeated};
 
 use crate::code::code_body_at;
-use crate::error::{ReadFault, bad, cut_off_fault};
+use crate::error::{ReadFault, bad, cut_off};
 use crate::names::{is_code, is_initialiser, name_at, skip_attributes};
-use crate::numbers::{bytes_at, place, u16_at, u32_at};
+use class_grammar::{bytes_at, is_abstract, is_native, is_synchronized, place, u16_at, u32_at};
 use class_texts::{is_floating_field, is_floating_method};
-use jx_base::{ClassKind, Code, Constant, Listed, Member, OutOfMemory, Text};
+use jx_base::{ClassKind, Code, Constant, Listed, Member, Text};
 use std::alloc::Global;
 
-#[tactic(auto, unfolding(class_grammar::specs::Flags::has_flag))]
-pub fn has_flag(flag: u16, flags: u16) -> bool
-    requires { 0 < flag }
-    ensures { result ≡ has_flag flag flags }
-{
-    flags / flag % 2 == 1
-}
-
-#[tactic(auto, unfolding(class_grammar::specs::Flags::is_abstract))]
-fn is_abstract(flags: u16) -> bool
-    ensures { result ≡ is_abstract flags }
-{
-    has_flag(0x0400, flags)
-}
-
 /// Whether the profile has such a method, apart from its types.
-#[tactic(auto, unfolding(class_grammar::specs::Flags::is_native, class_grammar::specs::Flags::is_synchronized))]
 fn is_supported(interface: bool, flags: u16, name: &[u16]) -> bool
     ensures { result ≡ (not (is_native flags) && not (is_synchronized flags) && (not interface || is_abstract flags || bytes_eq name.now (codes "<clinit>"))) }
 {
-    !has_flag(0x0100, flags)
-        && !has_flag(0x0020, flags)
+    !is_native(flags)
+        && !is_synchronized(flags)
         && (!interface || is_abstract(flags) || is_initialiser(name))
-}
-
-fn copy(alloc: Global, text: &[u16]) -> Result<Text, OutOfMemory>
-    ensures { IfOk result (λ copy. copy ≡ text.now) }
-{
-    Ok(Listed::from_vec(Vec::from_slice(alloc, text)?))
 }
 
 /// A field, with its attributes passed over.
@@ -59,21 +37,21 @@ fn field_at<'b>(
     ensures shorter { IfOk result (λ x. length x.1.now ≤ length bytes.now) }
 {
     let at = place(size, bytes);
-    let (flags, rest) = u16_at(cut_off_fault(size), bytes)?;
-    let (name, rest) = name_at(size, cut_off_fault(size), constants, rest)?;
+    let (flags, rest) = u16_at(cut_off(size), bytes)?;
+    let (name, rest) = name_at(size, cut_off(size), constants, rest)?;
     let descriptor_at = place(size, rest);
-    let (descriptor, rest) = name_at(size, cut_off_fault(size), constants, rest)?;
+    let (descriptor, rest) = name_at(size, cut_off(size), constants, rest)?;
     let Some(floating) = is_floating_field(descriptor) else {
         return Err(bad(descriptor_at, ClassKind::Descriptor));
     };
     if floating {
         return Err(bad(at, ClassKind::Unsupported));
     }
-    let rest = skip_attributes(size, cut_off_fault(size), constants, rest)?;
+    let rest = skip_attributes(size, cut_off(size), constants, rest)?;
     let field = Member {
         flags,
-        name: copy(alloc, name)?,
-        descriptor: copy(alloc, descriptor)?,
+        name: Text::from_slice(alloc, name)?,
+        descriptor: Text::from_slice(alloc, descriptor)?,
         code: None,
     };
     Ok((field, rest))
@@ -94,13 +72,13 @@ fn attribute_at<'b>(
     ensures shorter { IfOk result (λ x. length x.1.now ≤ length bytes.now) }
 {
     let at = place(size, bytes);
-    let (name, rest) = name_at(size, cut_off_fault(size), constants, bytes)?;
-    let (n, rest) = u32_at(cut_off_fault(size), rest)?;
+    let (name, rest) = name_at(size, cut_off(size), constants, bytes)?;
+    let (n, rest) = u32_at(cut_off(size), rest)?;
     if rest.len() < n as usize {
-        return Err(ReadFault::Bad(cut_off_fault(size)));
+        return Err(ReadFault::Bad(cut_off(size)));
     }
     if !is_code(name) {
-        let (_, rest) = bytes_at(cut_off_fault(size), n as usize, rest)?;
+        let (_, rest) = bytes_at(cut_off(size), n as usize, rest)?;
         return Ok((code, rest));
     }
     if !may_have || code.is_some() {
@@ -147,25 +125,25 @@ fn method_at<'b>(
     ensures shorter { IfOk result (λ x. length x.1.now ≤ length bytes.now) }
 {
     let at = place(size, bytes);
-    let (flags, rest) = u16_at(cut_off_fault(size), bytes)?;
-    let (name, rest) = name_at(size, cut_off_fault(size), constants, rest)?;
+    let (flags, rest) = u16_at(cut_off(size), bytes)?;
+    let (name, rest) = name_at(size, cut_off(size), constants, rest)?;
     let descriptor_at = place(size, rest);
-    let (descriptor, rest) = name_at(size, cut_off_fault(size), constants, rest)?;
+    let (descriptor, rest) = name_at(size, cut_off(size), constants, rest)?;
     let Some(floating) = is_floating_method(descriptor) else {
         return Err(bad(descriptor_at, ClassKind::Descriptor));
     };
     if floating || !is_supported(interface, flags, name) {
         return Err(bad(at, ClassKind::Unsupported));
     }
-    let (count, rest) = u16_at(cut_off_fault(size), rest)?;
+    let (count, rest) = u16_at(cut_off(size), rest)?;
     let (code, rest) = attributes_at(alloc, size, constants, !is_abstract(flags), count, rest)?;
     if !is_abstract(flags) && code.is_none() {
         return Err(bad(at, ClassKind::Code));
     }
     let method = Member {
         flags,
-        name: copy(alloc, name)?,
-        descriptor: copy(alloc, descriptor)?,
+        name: Text::from_slice(alloc, name)?,
+        descriptor: Text::from_slice(alloc, descriptor)?,
         code,
     };
     Ok((method, rest))

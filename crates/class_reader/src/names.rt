@@ -1,59 +1,13 @@
 //! Constants that are named by index (JVMS 4.4), and attributes that are passed over (JVMS 4.7).
-ghost use Rattle.std.specs.Prelude.{◌≡◌, ◌≤◌, [], length, IfOk, option_map, codes};
+ghost use Rattle.std.specs.Prelude.{◌≡◌, ◌≤◌, [], length, IfOk, codes};
 ghost use Rattle.std.specs.Str.{bytes_eq};
-ghost use Rattle.class_reader.specs.Reading.{Gives};
+ghost use Rattle.jx_base.specs.Answers.{Gives};
 ghost use Rattle.class_grammar.specs.Parts.{repeated};
-ghost use Rattle.class_grammar.specs.Constants.{text_at, names_class, names_text, names_member};
 ghost use Rattle.class_grammar.specs.Members.{is_code_name, name_part, class_index, skipped_attribute, skipped_attributes};
 
-use crate::error::{ReadFault, bad, cut_off_fault};
-use crate::numbers::{bytes_at, place, u16_at, u32_at};
+use crate::error::{ReadFault, bad, cut_off};
+use class_grammar::{bytes_at, names_class, place, text_at, u16_at, u32_at};
 use jx_base::{ClassFault, ClassKind, Constant};
-
-/// The text at an index, if a Utf8 is there.
-#[tactic(auto, unfolding(class_grammar::specs::Constants::text_at, class_grammar::specs::Constants::text_of_constant))]
-fn text_named(constants: &[Constant], index: u16) -> Option<&[u16]>
-    ensures { option_map (λ text. text.now) result ≡ text_at constants.now index }
-{
-    match constants.get(index as usize) {
-        Some(Constant::Utf8(text)) => Some(text.as_slice()),
-        _ => None,
-    }
-}
-
-/// Whether a Class is at the index.
-#[tactic(auto, unfolding(class_grammar::specs::Constants::names_class, class_grammar::specs::Constants::is_class))]
-pub fn is_class_named(constants: &[Constant], index: u16) -> bool
-    ensures { result ≡ names_class constants.now index }
-{
-    match constants.get(index as usize) {
-        Some(Constant::Class(_)) => true,
-        _ => false,
-    }
-}
-
-/// Whether a Utf8 is at the index.
-#[tactic(auto, unfolding(class_grammar::specs::Constants::names_text, class_grammar::specs::Constants::is_text))]
-pub fn is_text_named(constants: &[Constant], index: u16) -> bool
-    ensures { result ≡ names_text constants.now index }
-{
-    match constants.get(index as usize) {
-        Some(Constant::Utf8(_)) => true,
-        _ => false,
-    }
-}
-
-/// Whether a Class and a NameAndType are at the two indices.
-#[tactic(auto, unfolding(class_grammar::specs::Constants::names_member, class_grammar::specs::Constants::is_name_and_type))]
-pub fn is_member_named(constants: &[Constant], class: u16, index: u16) -> bool
-    ensures { result ≡ names_member constants.now class index }
-{
-    is_class_named(constants, class)
-        && match constants.get(index as usize) {
-            Some(Constant::NameAndType(_, _)) => true,
-            _ => false,
-        }
-}
 
 /// An index of a text, and the text.
 #[tactic(auto, unfolding(class_grammar::specs::Members::name_part))]
@@ -69,7 +23,7 @@ pub fn name_at<'c, 'b>(
 {
     let at = place(size, bytes);
     let (index, rest) = u16_at(cut, bytes)?;
-    match text_named(constants, index) {
+    match text_at(constants, index) {
         Some(text) => Ok((text, rest)),
         None => Err(bad(at, ClassKind::Index)),
     }
@@ -87,8 +41,8 @@ pub fn class_index_at<'b>(
     ensures shorter { IfOk result (λ x. length x.1.now ≤ length bytes.now) }
 {
     let at = place(size, bytes);
-    let (index, rest) = u16_at(cut_off_fault(size), bytes)?;
-    if !is_class_named(constants, index) {
+    let (index, rest) = u16_at(cut_off(size), bytes)?;
+    if !names_class(constants, index) {
         return Err(bad(at, ClassKind::Index));
     }
     Ok((index, rest))

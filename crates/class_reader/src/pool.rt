@@ -1,14 +1,13 @@
 //! The constants of a class (JVMS 4.1, 4.4), and what they name.
 ghost use Rattle.std.specs.Prelude.{◌≡◌, ◌≤◌, ◌<◌, ◌^◌, ◌+◌, ◌++◌, ◌∷◌, drop, length, IfOk, OnOk};
 ghost use Rattle.class_reader.specs.Pools.{index_count, entries, constants_length};
-ghost use Rattle.class_reader.specs.Reading.{Gives};
+ghost use Rattle.jx_base.specs.Answers.{Gives};
 ghost use Rattle.class_grammar.specs.ClassGrammar.{pool_part};
 ghost use Rattle.class_grammar.specs.Constants.{constants_part, names_rightly, misnaming_fault};
 
 use crate::constants::{constant_at, is_wide, length_of};
-use crate::error::{ReadFault, bad, class_fault, cut_off_fault};
-use crate::names::{is_class_named, is_member_named, is_text_named};
-use crate::numbers::{place, u16_at};
+use crate::error::{ReadFault, bad, class_fault, cut_off};
+use class_grammar::{names_member, names_text, place, u16_at};
 use jx_base::{ClassFault, ClassKind, Constant, Listed, OutOfMemory};
 use std::alloc::Global;
 
@@ -70,12 +69,12 @@ fn is_rightly_naming(constants: &[Constant], constant: &Constant) -> bool
     ensures { result ≡ names_rightly constants.now constant.now }
 {
     match constant {
-        Constant::Class(name) | Constant::Str(name) => is_text_named(constants, *name),
+        Constant::Class(name) | Constant::Str(name) => names_text(constants, *name),
         Constant::Field(class, member)
         | Constant::Method(class, member)
-        | Constant::InterfaceMethod(class, member) => is_member_named(constants, *class, *member),
+        | Constant::InterfaceMethod(class, member) => names_member(constants, *class, *member),
         Constant::NameAndType(name, descriptor) => {
-            is_text_named(constants, *name) && is_text_named(constants, *descriptor)
+            names_text(constants, *name) && names_text(constants, *descriptor)
         }
         _ => true,
     }
@@ -109,7 +108,7 @@ pub fn pool_at(
     ensures read { Gives (λ x. (x.0, x.1.now)) result ((pool_part size).reads bytes.now) }
     ensures shorter { IfOk result (λ x. length x.1.now ≤ length bytes.now) }
 {
-    let (count, rest) = u16_at(cut_off_fault(size), bytes)?;
+    let (count, rest) = u16_at(cut_off(size), bytes)?;
     if count == 0 {
         return Err(bad(8, ClassKind::Index));
     }

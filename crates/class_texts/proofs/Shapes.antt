@@ -11,6 +11,7 @@ use Rattle.class_texts.specs.Slots.{slots_of, argument_slots, capped}
 use Rattle.class_texts.specs.declared.descriptors.Tally.{Tally}
 use Rattle.class_texts.specs.Shapes.{joined, tally_of, tally_of_types, tally_of_method, object_tally, of_base, of_type, of_types, after_closing, signature_of, TellsOf}
 use Rattle.class_texts.proofs.Tests.{not_equal}
+use Rattle.std.proofs.Math.Bool.{or-false}
 
 -- behind what was read before
 abbrev pub with_tally : Tally → Option (Tally × List ℕ) → Option (Tally × List ℕ)
@@ -26,10 +27,6 @@ not_both : (a b : Bool) → (a ≡ false) ⊎ (b ≡ false) → (a && b) ≡ fal
 not_both false b h = refl
 not_both true false h = refl
 not_both true true h = elim h [ inl e ↦ absurd (cc) | inr e ↦ absurd (cc) ]
-
-or-false : (b : Bool) → (b || false) ≡ b
-or-false true = refl
-or-false false = refl
 
 abbrev some_pair : Tally → List ℕ → Option (Tally × List ℕ)
 some_pair t rest = Some (t, rest)

@@ -48,8 +48,3 @@ signature_of units = elim (types_at (length units) units) [ None ↦ None | Some
 abbrev pub TellsOf : {A : Type 0} → (A → Bool) → Option A → Option Bool → Type 0
 TellsOf test value (Some b) = (x : _) × (value ≡ Some x) × (b ≡ test x)
 TellsOf test value None = value ≡ None
-
--- what a computed row opens
-unfoldable pub opened_shapes : Unit {0}
-unfolding after_closing signature_of
-opened_shapes = tt

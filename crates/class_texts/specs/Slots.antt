@@ -13,8 +13,3 @@ argument_slots m = sum_by slots_of m.parameters
 -- the number, or the largest of 16 bits where it is larger
 abbrev pub capped : ℕ → ℕ
 capped n = min n (2 ^ 16 - 1)
-
--- what a computed row opens
-unfoldable pub opened_slots : Unit {0}
-unfolding slots_of argument_slots
-opened_slots = tt

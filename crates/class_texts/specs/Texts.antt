@@ -32,8 +32,3 @@ unit_at (b ∷ rest) = if begins_one b then Some (b, rest) else unit_of_two_at b
 abbrev pub IsTextOf : List ℕ → Option (List ℕ) → Type 0
 IsTextOf bytes (Some text) = IsModifiedUtf8 bytes text
 IsTextOf bytes None = (text : List ℕ) → IsModifiedUtf8 bytes text → ⊥
-
--- what a computed row opens
-unfoldable pub opened_texts : Unit {0}
-unfolding two three unit_of_three_at unit_of_two_at unit_at
-opened_texts = tt

@@ -5,9 +5,9 @@ use Rattle.class_grammar.specs.Parts.{onward}
 use Rattle.class_grammar.specs.CodeGrammar.{in_front, instruction_part, instructions_reading}
 use Rattle.jx_base.specs.declared.class_file.Instr.{Instr}
 use Rattle.jx_base.specs.declared.fault.CodeFault.{CodeFault}
-use Rattle.code_reader.specs.declared.error.CodeError.{CodeError}
-use Rattle.code_reader.specs.declared.error.CodeError.TheVariants as error
-use Rattle.code_reader.specs.Readings.{Fails}
+use Rattle.jx_base.specs.declared.error.Error.{Error}
+use Rattle.jx_base.specs.declared.error.Error.TheVariants as error
+use Rattle.jx_base.specs.Answers.{Fails}
 
 -- instructions that were read, and those behind them
 abbrev pub with_instrs : List Instr → Result (List Instr) CodeFault → Result (List Instr) CodeFault
@@ -59,7 +59,7 @@ fails_at f size zero front (b ∷ bytes) total some le e so_far = absurd (omega 
 fails_at f size (suc k) front (b ∷ bytes) total some le e so_far =
     sym so_far ∙ ap (λ r. with_instrs front (onward r (λ i rest. in_front i (instructions_reading size k rest)))) e
 
-pub fails : (e : CodeError) (size : ℕ) (front : List Instr) (rest : List ℕ) (total : Result (List Instr) CodeFault) → IsLeft size front rest total → 0 < length rest
+pub fails : (e : Error CodeFault) (size : ℕ) (front : List Instr) (rest : List ℕ) (total : Result (List Instr) CodeFault) → IsLeft size front rest total → 0 < length rest
     → Fails e ((instruction_part (size - length rest)).reads rest) → Fails e total
 fails error.OutOfMemory size front rest total left some h = tt
 fails (error.Bad f) size front rest total left some h = fails_at f size left.steps front rest total some left.enough h left.so_far

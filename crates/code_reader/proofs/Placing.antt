@@ -7,7 +7,7 @@ use Rattle.jx_base.specs.declared.class_file.Instr.{Instr}
 use Rattle.jx_base.specs.declared.class_file.Range.{Range}
 use Rattle.jx_base.specs.declared.fault.CodeFault.{CodeFault}
 use Rattle.jx_base.specs.declared.fault.CodeKind.TheVariants as kind
-use Rattle.code_reader.specs.CodeReading.{Marks, is_marked, leads_astray, is_good_range, astray_told, range_told, placed}
+use Rattle.code_reader.specs.CodeReading.{Marks, is_marked, leads_astray, is_good_range, unless_astray, unless_bad_range, placed}
 
 abbrev pc_of : Instr → ℕ
 pc_of i = i.pc
@@ -15,19 +15,19 @@ pc_of i = i.pc
 abbrev start_of : Range → ℕ
 start_of r = r.start
 
-astray_some : (pc : ℕ) (astray : Option Instr) (next : Result (List Instr) CodeFault) → Some pc ≡ option_map pc_of astray → astray_told astray next ≡ Err (code_fault pc kind.Target)
+astray_some : (pc : ℕ) (astray : Option Instr) (next : Result (List Instr) CodeFault) → Some pc ≡ option_map pc_of astray → unless_astray astray next ≡ Err (code_fault pc kind.Target)
 astray_some pc None next e = absurd cc
 astray_some pc (Some i) next e = let same : i.pc ≡ pc = cc in ap (λ n. Err (code_fault n kind.Target)) same
 
-astray_none : (astray : Option Instr) (next : Result (List Instr) CodeFault) → None ≡ option_map pc_of astray → astray_told astray next ≡ next
+astray_none : (astray : Option Instr) (next : Result (List Instr) CodeFault) → None ≡ option_map pc_of astray → unless_astray astray next ≡ next
 astray_none None next e = cc
 astray_none (Some i) next e = absurd cc
 
-range_some : (start : ℕ) (bad : Option Range) (instrs : List Instr) → Some start ≡ option_map start_of bad → range_told bad instrs ≡ Err (code_fault start kind.BadRange)
+range_some : (start : ℕ) (bad : Option Range) (instrs : List Instr) → Some start ≡ option_map start_of bad → unless_bad_range bad instrs ≡ Err (code_fault start kind.BadRange)
 range_some start None instrs e = absurd cc
 range_some start (Some r) instrs e = let same : r.start ≡ start = cc in ap (λ n. Err (code_fault n kind.BadRange)) same
 
-range_none : (bad : Option Range) (instrs : List Instr) → None ≡ option_map start_of bad → range_told bad instrs ≡ Ok instrs
+range_none : (bad : Option Range) (instrs : List Instr) → None ≡ option_map start_of bad → unless_bad_range bad instrs ≡ Ok instrs
 range_none None instrs e = cc
 range_none (Some r) instrs e = absurd cc
 
@@ -43,7 +43,7 @@ module _ (starts : List Bool) (instrs : List Instr) (marks : Marks starts instrs
   pub astray_found : (size : ℕ) (table : List Range) (pc : ℕ) → Some pc ≡ option_map pc_of (find (leads_astray (is_marked starts)) instrs) → placed size table instrs ≡ Err (code_fault pc kind.Target)
   astray_found size table pc e = astray_some pc (first_astray instrs) _ (e ∙ ap (option_map pc_of) same_astray)
 
-  none_astray : (size : ℕ) (table : List Range) → None ≡ option_map pc_of (find (leads_astray (is_marked starts)) instrs) → placed size table instrs ≡ range_told (first_bad_range size instrs table) instrs
+  none_astray : (size : ℕ) (table : List Range) → None ≡ option_map pc_of (find (leads_astray (is_marked starts)) instrs) → placed size table instrs ≡ unless_bad_range (first_bad_range size instrs table) instrs
   none_astray size table e = astray_none (first_astray instrs) _ (e ∙ ap (option_map pc_of) same_astray)
 
   pub range_found : (size : ℕ) (table : List Range) (start : ℕ) → None ≡ option_map pc_of (find (leads_astray (is_marked starts)) instrs)

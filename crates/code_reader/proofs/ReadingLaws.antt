@@ -7,7 +7,7 @@ use Rattle.jx_base.specs.declared.class_file.Instr.{Instr}
 use Rattle.jx_base.specs.declared.class_file.Range.{Range}
 use Rattle.jx_base.specs.declared.fault.CodeFault.{CodeFault}
 use Rattle.jx_base.specs.declared.fault.CodeKind.TheVariants as kind
-use Rattle.code_reader.specs.CodeReading.{astray_told, range_told, checked, code_reading}
+use Rattle.code_reader.specs.CodeReading.{unless_astray, unless_bad_range, checked, code_reading}
 use Rattle.code_reader.proofs.Sound.{sound_instruction, takes_a_byte}
 
 abbrev Read : Type 0
@@ -106,13 +106,13 @@ module _ (size : ℕ) where
 
 -- ---- code
 
-told_ok : (astray : Option Instr) (bad : Option Range) (is instrs : List Instr) → astray_told astray (range_told bad is) ≡ Ok instrs
+told_ok : (astray : Option Instr) (bad : Option Range) (is instrs : List Instr) → unless_astray astray (unless_bad_range bad is) ≡ Ok instrs
     → (astray ≡ None) × (bad ≡ None) × (is ≡ instrs)
 told_ok None None is instrs e = (refl, refl, cc)
 told_ok None (Some r) is instrs e = absurd cc
 told_ok (Some i) bad is instrs e = absurd cc
 
-told_err : (astray : Option Instr) (bad : Option Range) (is : List Instr) (f : CodeFault) → astray_told astray (range_told bad is) ≡ Err f
+told_err : (astray : Option Instr) (bad : Option Range) (is : List Instr) (f : CodeFault) → unless_astray astray (unless_bad_range bad is) ≡ Err f
     → ((i : Instr) × (astray ≡ Some i) × (f ≡ code_fault i.pc kind.Target)) ⊎ ((r : Range) × (astray ≡ None) × (bad ≡ Some r) × (f ≡ code_fault r.start kind.BadRange))
 told_err None None is f e = absurd cc
 told_err None (Some r) is f e = inr (r, refl, refl, cc)
@@ -138,8 +138,8 @@ read_alone code table instrs h = only (length code) (length code) code instrs (o
 pub code_only : (code : List ℕ) (table : List Range) (instrs : List Instr) → IsCode code table instrs → code_reading code table ≡ Ok instrs
 unfolding code_reading
 code_only code table instrs h =
-    ap (checked (length code) table) (read_alone code table instrs h) ∙ ap (λ a. astray_told a (range_told (first_bad_range (length code) instrs table) instrs)) h.targets
-    ∙ ap (λ b. range_told b instrs) h.ranges
+    ap (checked (length code) table) (read_alone code table instrs h) ∙ ap (λ a. unless_astray a (unless_bad_range (first_bad_range (length code) instrs table) instrs)) h.targets
+    ∙ ap (λ b. unless_bad_range b instrs) h.ranges
 
 fault_of : (code : List ℕ) (table : List Range) (f : CodeFault) (r : Read) → alone code ≡ r → checked (length code) table r ≡ Err f → IsFirstFault code table f
 fault_of code table f (Err g) is e =
@@ -160,10 +160,10 @@ unfolding code_reading
 fault_only code table f (of_instruction instrs h) = ap (checked (length code) table) (fails_only (length code) (length code) code instrs f (omega arith) h)
 fault_only code table f (of_target instrs i spelled astray same) =
     ap (checked (length code) table) (only (length code) (length code) code instrs (omega arith) spelled)
-    ∙ ap (λ a. astray_told a (range_told (first_bad_range (length code) instrs table) instrs)) astray
+    ∙ ap (λ a. unless_astray a (unless_bad_range (first_bad_range (length code) instrs table) instrs)) astray
     ∙ ap (λ (g : CodeFault). Err g) (sym same)
 fault_only code table f (of_range instrs r spelled astray bad same) =
     ap (checked (length code) table) (only (length code) (length code) code instrs (omega arith) spelled)
-    ∙ ap (λ a. astray_told a (range_told (first_bad_range (length code) instrs table) instrs)) astray
-    ∙ ap (λ b. range_told b instrs) bad
+    ∙ ap (λ a. unless_astray a (unless_bad_range (first_bad_range (length code) instrs table) instrs)) astray
+    ∙ ap (λ b. unless_bad_range b instrs) bad
     ∙ ap (λ (g : CodeFault). Err g) (sym same)

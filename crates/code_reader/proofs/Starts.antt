@@ -11,6 +11,7 @@ use Rattle.std.proofs.Math.Seq.{take-length}
 use Rattle.class_grammar.specs.CodeGrammar.{starts_at}
 use Rattle.jx_base.specs.declared.class_file.Instr.{Instr}
 use Rattle.code_reader.specs.CodeReading.{Marks, is_marked}
+use Rattle.std.proofs.Math.Bool.{or-false}
 
 none_marked : (size n : ℕ) → get_or (replicate size false) n false ≡ false
 none_marked zero n = refl
@@ -26,17 +27,13 @@ or_true : (b : Bool) → (b || true) ≡ true
 or_true true = refl
 or_true false = refl
 
-or_false : (b : Bool) → (b || false) ≡ b
-or_false true = refl
-or_false false = refl
-
 marked_at : (starts : List Bool) (place n : ℕ) (b same : Bool) → nat_eq place n ≡ same → place < length starts → get_or starts n false ≡ b → get_or (slice_set starts place true) n false ≡ (b || (same || false))
 marked_at starts place n b true e h is =
     let at : place ≡ n = grind (arith, nat_tests) in
     ap (λ k. get_or (slice_set starts place true) k false) (sym at) ∙ get_or-set_same starts place true false h ∙ sym (or_true b)
 marked_at starts place n b false e h is =
     let at : n ≢ place = grind (arith, nat_tests) in
-    get_or-set_other starts place n true false at ∙ is ∙ sym (or_false b)
+    get_or-set_other starts place n true false at ∙ is ∙ sym (or-false b)
 
 pos_is : (a b : ℕ) → pos a ≡ pos b → a ≡ b
 pos_is a b e = cc

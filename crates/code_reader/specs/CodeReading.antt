@@ -6,8 +6,8 @@ use Rattle.jx_base.specs.declared.class_file.Instr.{Instr}
 use Rattle.jx_base.specs.declared.class_file.Range.{Range}
 use Rattle.jx_base.specs.declared.fault.CodeFault.{CodeFault}
 use Rattle.jx_base.specs.declared.fault.CodeKind.TheVariants as kind
-use Rattle.code_reader.specs.declared.error.CodeError.{CodeError}
-use Rattle.code_reader.specs.declared.error.CodeError.TheVariants as error
+use Rattle.jx_base.specs.declared.error.Error.{Error}
+use Rattle.jx_base.specs.declared.error.Error.TheVariants as error
 
 -- ---- starts of instructions, marked by place
 
@@ -32,18 +32,18 @@ is_good_range size is_start r =
 -- ---- reading
 
 -- these instructions, where none leads astray
-abbrev pub astray_told : Option Instr → Result (List Instr) CodeFault → Result (List Instr) CodeFault
-astray_told None next = next
-astray_told (Some i) next = Err (code_fault i.pc kind.Target)
+abbrev pub unless_astray : Option Instr → Result (List Instr) CodeFault → Result (List Instr) CodeFault
+unless_astray None next = next
+unless_astray (Some i) next = Err (code_fault i.pc kind.Target)
 
 -- these instructions, where no range is bad
-abbrev pub range_told : Option Range → List Instr → Result (List Instr) CodeFault
-range_told None instrs = Ok instrs
-range_told (Some r) instrs = Err (code_fault r.start kind.BadRange)
+abbrev pub unless_bad_range : Option Range → List Instr → Result (List Instr) CodeFault
+unless_bad_range None instrs = Ok instrs
+unless_bad_range (Some r) instrs = Err (code_fault r.start kind.BadRange)
 
 -- these instructions, where their targets and the exception table have no fault
 abbrev pub placed : ℕ → List Range → List Instr → Result (List Instr) CodeFault
-placed size table instrs = astray_told (first_astray instrs) (range_told (first_bad_range size instrs table) instrs)
+placed size table instrs = unless_astray (first_astray instrs) (unless_bad_range (first_bad_range size instrs table) instrs)
 
 abbrev pub checked : ℕ → List Range → Result (List Instr) CodeFault → Result (List Instr) CodeFault
 checked size table (Ok instrs) = placed size table instrs
@@ -54,11 +54,11 @@ unfoldable pub code_reading : List ℕ → List Range → Result (List Instr) Co
 code_reading code table = checked (length code) table (instructions_reading (length code) (length code) code)
 
 -- the fault of the targets and the exception table, if they have one
-abbrev pub IsToldBy : ℕ → List Range → List Instr → Option CodeFault → Type 0
-IsToldBy size table instrs None = placed size table instrs ≡ Ok instrs
-IsToldBy size table instrs (Some f) = placed size table instrs ≡ Err f
+abbrev pub IsFoundBy : ℕ → List Range → List Instr → Option CodeFault → Type 0
+IsFoundBy size table instrs None = placed size table instrs ≡ Ok instrs
+IsFoundBy size table instrs (Some f) = placed size table instrs ≡ Err f
 
--- the fault that was told is the code's first, unless memory ran out
-abbrev pub TellsFault : List ℕ → List Range → CodeError → Type 0
-TellsFault code table (error.Bad f) = IsCodeFault code table f.pc f.kind
-TellsFault code table error.OutOfMemory = Unit {0}
+-- the fault that was found is the code's first, unless memory ran out
+abbrev pub FindsFault : List ℕ → List Range → Error CodeFault → Type 0
+FindsFault code table (error.Bad f) = IsCodeFault code table f.pc f.kind
+FindsFault code table error.OutOfMemory = Unit {0}

@@ -1,32 +1,29 @@
 //! Why bytes aren't read as the code of a method.
 ghost use Rattle.std.specs.Prelude.{◌≡◌};
-ghost use Rattle.code_reader.specs.declared.error.CodeError.TheVariants.{OutOfMemory};
+ghost use Rattle.class_grammar.specs.CodeGrammar as Spec;
+ghost use Rattle.jx_base.specs.declared.error.Error.TheVariants.{Bad};
 
-use jx_base::CodeFault;
-use std::alloc::{AllocError, AllocFailed};
-use thiserror::Error;
+use jx_base::{CodeFault, CodeKind, Error};
 
-/// Why there are no instructions.
-#[derive(Debug, Drop, Error)]
-pub enum CodeError {
-    #[error("bad code: {0:?}")]
-    Bad(CodeFault),
-    #[error("out of memory")]
-    OutOfMemory,
-}
+/// Why there are no instructions: the bytes are no code, or memory was refused.
+pub type CodeError = Error<CodeFault>;
 
-impl From<AllocError> for CodeError {
-    ghost from_gives = { λ _ error. error ≡ OutOfMemory };
+/// What stands at the front of bytes, and the bytes behind it.
+pub type Front<'b, T> = class_grammar::Front<'b, T, CodeFault>;
 
-    fn from(_: AllocError) -> CodeError {
-        CodeError::OutOfMemory
+/// The fault of an instruction that runs past the end.
+pub fn past_end(pc: u32) -> CodeFault
+    ensures { result ≡ Spec.past_end pc }
+{
+    CodeFault {
+        pc,
+        kind: CodeKind::Truncated,
     }
 }
 
-impl<T: Drop> From<AllocFailed<T>> for CodeError {
-    ghost from_gives = { λ _ error. error ≡ OutOfMemory };
-
-    fn from(_: AllocFailed<T>) -> CodeError {
-        CodeError::OutOfMemory
-    }
+/// The fault of the instruction at `pc`.
+pub fn fault(pc: u32, kind: CodeKind) -> CodeError
+    ensures { result ≡ Bad (Spec.code_fault pc kind) }
+{
+    CodeError::Bad(CodeFault { pc, kind })
 }

@@ -1,11 +1,11 @@
 //! Instructions, one behind the other.
 ghost use Rattle.std.specs.Prelude.{◌<◌, ◌^◌, length, IfOk};
 ghost use Rattle.class_grammar.specs.CodeGrammar.{wide_part, instruction_part, instructions_reading};
-ghost use Rattle.code_reader.specs.Readings.{Gives};
+ghost use Rattle.jx_base.specs.Answers.{Gives};
 
-use crate::error::CodeError;
-use crate::numbers::{Front, u8_at};
+use crate::error::{CodeError, Front, past_end};
 use crate::operands::operands_of;
+use class_grammar::u8_at;
 use instruction_table::{form_of, wide_form_of};
 use jx_base::{CodeKind, Form, Instr, Numbers};
 use std::alloc::Global;
@@ -32,7 +32,7 @@ fn instruction(alloc: Global, pc: u32, bytes: &[u8]) -> Front<'_, Instr>
     ensures read { Gives (λ x. (x.0, x.1.now)) result ((instruction_part pc).reads bytes.now) }
     ensures shorter { IfOk result (λ x. length x.1.now < length bytes.now) }
 {
-    let (opcode, rest) = u8_at(pc, bytes)?;
+    let (opcode, rest) = u8_at(past_end(pc), bytes)?;
     match form_of(opcode) {
         Form::Wide => wide(alloc, pc, rest),
         form => {
@@ -55,7 +55,7 @@ fn wide(alloc: Global, pc: u32, bytes: &[u8]) -> Front<'_, Instr>
     ensures read { Gives (λ x. (x.0, x.1.now)) result ((wide_part pc).reads bytes.now) }
     ensures shorter { IfOk result (λ x. length x.1.now < length bytes.now) }
 {
-    let (opcode, rest) = u8_at(pc, bytes)?;
+    let (opcode, rest) = u8_at(past_end(pc), bytes)?;
     let form = wide_form_of(opcode);
     let (operands, rest) = operands_of(alloc, CodeKind::BadWide, form, pc, rest)?;
     let instr = Instr {

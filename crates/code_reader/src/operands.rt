@@ -5,12 +5,14 @@ ghost use Rattle.class_grammar.specs.Parts.{done};
 ghost use Rattle.class_grammar.specs.CodeGrammar.{interface_operands, array_type_operand, dimensions_operands, increment_operands, operands_part};
 ghost use Rattle.code_reader.specs.Readings.{IsNoLonger, ReadsNumbers};
 
-use crate::numbers::{Front, far_target_at, fault, skip, target_at, u8_at, u16_at};
+use crate::branch_targets::{far_target_at, target_at};
+use crate::error::{Front, fault, past_end};
 use crate::switches::{lookup, table};
+use class_grammar::{bytes_at, u8_at, u16_at};
 use jx_base::{CodeKind, Form};
 use std::alloc::Global;
 
-/// The operands of a form; `missing` is told of an opcode that the table doesn't have.
+/// The operands of a form; `missing` is found at an opcode that the table doesn't have.
 #[tactic(auto, unfolding(class_grammar::specs::CodeGrammar::operands_part, class_grammar::specs::CodeGrammar::signed_operand, class_grammar::specs::CodeGrammar::unsigned_operand))]
 pub fn operands_of(
     alloc: Global,
@@ -26,19 +28,19 @@ pub fn operands_of(
     match form {
         Form::Plain => Ok((Vec::new(alloc), bytes)),
         Form::SignedByte => {
-            let (n, rest) = u8_at(pc, bytes)?;
+            let (n, rest) = u8_at(past_end(pc), bytes)?;
             one(alloc, i32::from(n.cast_signed()), rest)
         }
         Form::SignedShort => {
-            let (n, rest) = u16_at(pc, bytes)?;
+            let (n, rest) = u16_at(past_end(pc), bytes)?;
             one(alloc, i32::from(n.cast_signed()), rest)
         }
         Form::Byte => {
-            let (n, rest) = u8_at(pc, bytes)?;
+            let (n, rest) = u8_at(past_end(pc), bytes)?;
             one(alloc, i32::from(n), rest)
         }
         Form::Index => {
-            let (n, rest) = u16_at(pc, bytes)?;
+            let (n, rest) = u16_at(past_end(pc), bytes)?;
             one(alloc, i32::from(n), rest)
         }
         Form::Interface => interface(alloc, pc, bytes),
@@ -73,8 +75,8 @@ fn interface(alloc: Global, pc: u32, bytes: &[u8]) -> Front<'_, Vec<i32>>
     ensures read { ReadsNumbers (interface_operands pc) bytes.now result }
     ensures shorter { IsNoLonger bytes.now result }
 {
-    let (index, rest) = u16_at(pc, bytes)?;
-    let (_, rest) = skip(2, pc, rest)?;
+    let (index, rest) = u16_at(past_end(pc), bytes)?;
+    let (_, rest) = bytes_at(past_end(pc), 2, rest)?;
     one(alloc, i32::from(index), rest)
 }
 
@@ -83,7 +85,7 @@ fn array_type(alloc: Global, pc: u32, bytes: &[u8]) -> Front<'_, Vec<i32>>
     ensures read { ReadsNumbers (array_type_operand pc) bytes.now result }
     ensures shorter { IsNoLonger bytes.now result }
 {
-    let (number, rest) = u8_at(pc, bytes)?;
+    let (number, rest) = u8_at(past_end(pc), bytes)?;
     if number < 4 || number > 11 {
         return Err(fault(pc, CodeKind::Opcode));
     }
@@ -98,8 +100,8 @@ fn dimensions(alloc: Global, pc: u32, bytes: &[u8]) -> Front<'_, Vec<i32>>
     ensures read { ReadsNumbers (dimensions_operands pc) bytes.now result }
     ensures shorter { IsNoLonger bytes.now result }
 {
-    let (index, rest) = u16_at(pc, bytes)?;
-    let (count, rest) = u8_at(pc, rest)?;
+    let (index, rest) = u16_at(past_end(pc), bytes)?;
+    let (count, rest) = u8_at(past_end(pc), rest)?;
     if count == 0 {
         return Err(fault(pc, CodeKind::Opcode));
     }
@@ -111,8 +113,8 @@ fn increment(alloc: Global, pc: u32, bytes: &[u8]) -> Front<'_, Vec<i32>>
     ensures read { ReadsNumbers (increment_operands w8 pc) bytes.now result }
     ensures shorter { IsNoLonger bytes.now result }
 {
-    let (local, rest) = u8_at(pc, bytes)?;
-    let (by, rest) = u8_at(pc, rest)?;
+    let (local, rest) = u8_at(past_end(pc), bytes)?;
+    let (by, rest) = u8_at(past_end(pc), rest)?;
     two(alloc, i32::from(local), i32::from(by.cast_signed()), rest)
 }
 
@@ -121,8 +123,8 @@ fn wide_increment(alloc: Global, pc: u32, bytes: &[u8]) -> Front<'_, Vec<i32>>
     ensures read { ReadsNumbers (increment_operands w16 pc) bytes.now result }
     ensures shorter { IsNoLonger bytes.now result }
 {
-    let (local, rest) = u16_at(pc, bytes)?;
-    let (by, rest) = u16_at(pc, rest)?;
+    let (local, rest) = u16_at(past_end(pc), bytes)?;
+    let (by, rest) = u16_at(past_end(pc), rest)?;
     two(alloc, i32::from(local), i32::from(by.cast_signed()), rest)
 }
 

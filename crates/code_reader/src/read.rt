@@ -3,8 +3,8 @@ ghost use Rattle.std.specs.Prelude.{◌<◌, ◌^◌, ℕ, List, length, IfOk, I
 ghost use Rattle.class_grammar.specs.CodeGrammar.{IsCode, IsCodeFault, code_fault};
 ghost use Rattle.jx_base.specs.declared.class_file.Instr.{Instr};
 ghost use Rattle.jx_base.specs.declared.fault.CodeKind.{CodeKind};
-ghost use Rattle.code_reader.specs.CodeReading.{Marks, TellsFault, IsToldBy, code_reading};
-ghost use Rattle.code_reader.specs.Readings.{Gives};
+ghost use Rattle.code_reader.specs.CodeReading.{Marks, FindsFault, IsFoundBy, code_reading};
+ghost use Rattle.jx_base.specs.Answers.{Gives};
 
 use crate::error::CodeError;
 use crate::instructions::instructions;
@@ -16,9 +16,9 @@ use std::alloc::Global;
 pub fn read_code(alloc: Global, code: &[u8], table: &[Range]) -> Result<Vec<Instr>, CodeError>
     requires { length code.now < 2 ^ 16 }
     ensures found { IfOk result (λ instrs. IsCode code.now table.now instrs.items) }
-    ensures fault { IfErr result (TellsFault code.now table.now) }
+    ensures fault { IfErr result (FindsFault code.now table.now) }
 
-    // What the code is, or its first fault, is told, unless memory runs out.
+    // What the code is, or its first fault, is found, unless memory runs out.
     ensures only { (instrs : List Instr) → IsCode code.now table.now instrs
         → Gives (λ v. v.items) result (Ok instrs) }
     ensures only_fault { (pc : ℕ) (kind : CodeKind) → IsCodeFault code.now table.now pc kind
@@ -42,7 +42,7 @@ fn checked_code(alloc: Global, code: &[u8], table: &[Range]) -> Result<Vec<Instr
 // The first fault of the targets, and else of the exception table.
 fn first_fault(size: usize, starts: &[bool], instrs: &[Instr], table: &[Range]) -> Option<CodeFault>
     requires { Marks starts.now instrs.now }
-    ensures { IsToldBy size table.now instrs.now result }
+    ensures { IsFoundBy size table.now instrs.now result }
 {
     if let Some(pc) = first_astray(starts, instrs) {
         return Some(CodeFault {

@@ -3,9 +3,13 @@ ghost use Rattle.std.specs.Prelude.{◌≡◌, ◌<◌, ◌≤◌, ◌≤ℤ◌,
 ghost use Rattle.std.specs.Int.{w32};
 ghost use Rattle.class_grammar.specs.Parts.{repeated};
 ghost use Rattle.class_grammar.specs.CodeGrammar.{target_operand, key_operands, keys_rise, table_operands, lookup_operands, padding_length};
-ghost use Rattle.code_reader.specs.Readings.{AddsNumbers, Gives, IsNoLonger, ReadsNumbers};
+ghost use Rattle.code_reader.specs.Readings.{AddsNumbers, IsNoLonger, ReadsNumbers};
+ghost use Rattle.jx_base.specs.Answers.{Gives};
 
-use crate::numbers::{Front, far_target_at, fault, number_at, skip, u32_at};
+use crate::branch_targets::far_target_at;
+use crate::error::{Front, fault, past_end};
+use crate::targets::number_at;
+use class_grammar::{bytes_at, u32_at};
 use jx_base::CodeKind;
 use std::alloc::Global;
 
@@ -16,10 +20,10 @@ pub fn table(alloc: Global, pc: u32, bytes: &[u8]) -> Front<'_, Vec<i32>>
     ensures read { ReadsNumbers (table_operands pc) bytes.now result }
     ensures shorter { IsNoLonger bytes.now result }
 {
-    let (_, rest) = skip(padding(pc), pc, bytes)?;
+    let (_, rest) = bytes_at(past_end(pc), padding(pc), bytes)?;
     let (default, rest) = far_target_at(pc, rest)?;
-    let (low, rest) = u32_at(pc, rest)?;
-    let (high, rest) = u32_at(pc, rest)?;
+    let (low, rest) = u32_at(past_end(pc), rest)?;
+    let (high, rest) = u32_at(past_end(pc), rest)?;
     let low = low.cast_signed();
     let high = high.cast_signed();
     if low > high {
@@ -67,9 +71,9 @@ pub fn lookup(alloc: Global, pc: u32, bytes: &[u8]) -> Front<'_, Vec<i32>>
     ensures read { ReadsNumbers (lookup_operands pc) bytes.now result }
     ensures shorter { IsNoLonger bytes.now result }
 {
-    let (_, rest) = skip(padding(pc), pc, bytes)?;
+    let (_, rest) = bytes_at(past_end(pc), padding(pc), bytes)?;
     let (default, rest) = far_target_at(pc, rest)?;
-    let (count, rest) = u32_at(pc, rest)?;
+    let (count, rest) = u32_at(past_end(pc), rest)?;
     let count = count.cast_signed();
     if count < 0 {
         return Err(fault(pc, CodeKind::BadRange));
@@ -104,7 +108,7 @@ fn key_at(pc: u32, bytes: &[u8]) -> Front<'_, (i32, i32)>
     ensures read { Gives (λ x. (x.0.0 ∷ x.0.1 ∷ [], x.1.now)) result ((key_operands pc).reads bytes.now) }
     ensures shorter { IsNoLonger bytes.now result }
 {
-    let (key, rest) = u32_at(pc, bytes)?;
+    let (key, rest) = u32_at(past_end(pc), bytes)?;
     let (target, rest) = far_target_at(pc, rest)?;
     Ok(((key.cast_signed(), target), rest))
 }

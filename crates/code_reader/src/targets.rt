@@ -1,10 +1,9 @@
 //! Where instructions start, and what has to lead there.
-ghost use Rattle.std.specs.Prelude.{◌≡◌, ◌<◌, pos, All, IfOk, find, not, option_map};
+ghost use Rattle.std.specs.Prelude.{◌≡◌, ◌<◌, pos, All, IfOk, find, not, option_map, slice_index_or};
 ghost use Rattle.std.specs.List.{list_all};
 ghost use Rattle.class_grammar.specs.CodeGrammar.{key_targets};
 ghost use Rattle.code_reader.specs.CodeReading.{Marks, is_marked, leads_astray, is_good_range};
 
-use crate::numbers::number_at;
 use instruction_table::form_of;
 use jx_base::{Form, Instr, OutOfMemory, Range};
 use std::alloc::Global;
@@ -115,4 +114,14 @@ pub fn first_bad_range(size: usize, starts: &[bool], table: &[Range]) -> Option<
         }
     }
     None
+}
+
+/// The number at a place, and 0 where there is none.
+pub fn number_at(numbers: &[i32], i: usize) -> i32
+    ensures { result ≡ slice_index_or numbers.now i (pos 0) }
+{
+    match numbers.get(i) {
+        Some(n) => *n,
+        None => 0,
+    }
 }

@@ -6,4 +6,4 @@ pub returns-in-Some-clause-long : goal.returns-in-Some-clause-long
 unfolding constant_length
 returns-in-Some-clause-long c =
     let h = rw c.in-Some.is at c.in_ok-text.ensures.spells in
-    omega (arith, ap length h.spelled, c.in_ok-bytes.ensures.front, c.in_ok-bytes.ensures.long, c.in_ok-n.ensures.long)
+    omega (arith, ap length h.spelled, c.in_ok-bytes.ensures.front, c.in_ok-bytes.ensures.rest, c.in_ok-n.ensures.rest)

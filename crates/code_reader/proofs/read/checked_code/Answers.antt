@@ -4,16 +4,16 @@ use Rattle.std.proofs.lemmas.Result.{err_from_is_err_and}
 use Rattle.jx_base.specs.declared.class_file.Instr.{Instr}
 use Rattle.jx_base.specs.declared.class_file.Range.{Range}
 use Rattle.jx_base.specs.declared.fault.CodeFault.{CodeFault}
-use Rattle.code_reader.specs.declared.error.CodeError.{CodeError}
-use Rattle.code_reader.specs.declared.error.CodeError.TheVariants as error
+use Rattle.jx_base.specs.declared.error.Error.{Error}
+use Rattle.jx_base.specs.declared.error.Error.TheVariants as error
 use Rattle.code_reader.specs.CodeReading.{checked, code_reading, placed}
-use Rattle.code_reader.specs.Readings.{Fails}
+use Rattle.jx_base.specs.Answers.{Fails}
 use Rattle.code_reader.proofs.Places.{rises_from, within}
 use Rattle.code_reader.proofs.ReadingLaws.{found}
 use Rattle.code_reader.proofs.read.checked_code.Goals as goal
 
 -- code that isn't read isn't checked
-fails_first : (e : CodeError) (size : ℕ) (table : List Range) (reading : Result (List Instr) CodeFault) → Fails e reading → Fails e (checked size table reading)
+fails_first : (e : Error CodeFault) (size : ℕ) (table : List Range) (reading : Result (List Instr) CodeFault) → Fails e reading → Fails e (checked size table reading)
 fails_first error.OutOfMemory size table reading h = tt
 fails_first (error.Bad f) size table reading h = ap (checked size table) h
 

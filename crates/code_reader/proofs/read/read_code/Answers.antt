@@ -4,15 +4,15 @@ use Rattle.jx_base.specs.declared.class_file.Instr.{Instr}
 use Rattle.jx_base.specs.declared.class_file.Range.{Range}
 use Rattle.jx_base.specs.declared.fault.CodeFault.{CodeFault}
 use Rattle.class_grammar.specs.CodeGrammar.{IsCode, code_fault}
-use Rattle.code_reader.specs.declared.error.CodeError.{CodeError}
-use Rattle.code_reader.specs.declared.error.CodeError.TheVariants as error
-use Rattle.code_reader.specs.CodeReading.{code_reading, TellsFault}
-use Rattle.code_reader.specs.Readings.{Gives}
+use Rattle.jx_base.specs.declared.error.Error.{Error}
+use Rattle.jx_base.specs.declared.error.Error.TheVariants as error
+use Rattle.code_reader.specs.CodeReading.{code_reading, FindsFault}
+use Rattle.jx_base.specs.Answers.{Gives}
 use Rattle.code_reader.proofs.ReadingLaws.{code_found, code_only, fault_found, fault_only}
 use Rattle.code_reader.proofs.read.read_code.Goals as goal
 
 abbrev Answer : Type 0
-Answer = Result (Vec Instr Global) CodeError
+Answer = Result (Vec Instr Global) (Error CodeFault)
 
 abbrev GivesItems : Answer → Result (List Instr) CodeFault → Type 0
 GivesItems answer reading = Gives (λ (v : Vec Instr Global). v.items) answer reading
@@ -21,7 +21,7 @@ is_code : (code : List ℕ) (table : List Range) (answer : Answer) → GivesItem
 is_code code table (Ok v) gives = code_found code table v.items gives
 is_code code table (Err e) gives = tt
 
-is_fault : (code : List ℕ) (table : List Range) (answer : Answer) → GivesItems answer (code_reading code table) → IfErr answer (TellsFault code table)
+is_fault : (code : List ℕ) (table : List Range) (answer : Answer) → GivesItems answer (code_reading code table) → IfErr answer (FindsFault code table)
 is_fault code table (Ok v) gives = tt
 is_fault code table (Err (error.Bad f)) gives = fault_found code table f gives
 is_fault code table (Err error.OutOfMemory) gives = tt

@@ -1,7 +1,7 @@
 use Rattle.std.proofs.Common.{◌≡◌, ◌-◌, ◌≤◌, length}
 use Rattle.class_grammar.specs.Parts.{repeated}
 use Rattle.class_grammar.specs.CodeGrammar.{key_operands}
-use Rattle.code_reader.specs.Readings.{with_front}
+use Rattle.class_grammar.specs.Parts.{with_front}
 use Rattle.code_reader.proofs.switches.with_keys.Given as goal
 
 abbrev pub invariant-loop : goal.invariant-loop

@@ -2,7 +2,7 @@ use Rattle.std.proofs.Common.{◌≡◌, ◌-◌, ◌≤◌, length}
 use Rattle.std.specs.Int.{w32}
 use Rattle.class_grammar.specs.Parts.{repeated}
 use Rattle.class_grammar.specs.CodeGrammar.{target_operand}
-use Rattle.code_reader.specs.Readings.{with_front}
+use Rattle.class_grammar.specs.Parts.{with_front}
 use Rattle.code_reader.proofs.switches.with_targets.Given as goal
 
 abbrev pub invariant-loop : goal.invariant-loop
