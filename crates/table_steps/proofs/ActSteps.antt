@@ -1,10 +1,8 @@
 -- All that is kept stands for the past with the entry, after each kind of act that is done.
-use Rattle.std.proofs.Common.{◌≡◌, refl, sym, ◌∙◌, ap, ℕ, ◌+◌, ◌≤◌, ℤ, pos, Bool, true, false, not, ◌&&◌, ◌||◌, List, [], ◌∷◌, ◌++◌, length, map, replicate, Option, Some, None, arith, ◌==◌, if◌then◌else◌, inr, filter, set}
+use Rattle.std.proofs.Common.{◌≡◌, refl, sym, ◌∙◌, ap, ℕ, ◌+◌, ◌≤◌, ℤ, pos, Bool, true, false, not, ◌&&◌, ◌||◌, List, [], ◌∷◌, ◌++◌, length, replicate, Option, Some, None, arith, ◌==◌, inr, filter, set}
 use Rattle.jx_base.specs.declared.act.Act.TheVariants as act
 use Rattle.jx_base.specs.declared.act.Reply.{Reply}
 use Rattle.jx_base.specs.declared.act.Reply.TheVariants as reply
-use Rattle.jx_base.specs.declared.act.Reason.{Reason}
-use Rattle.jx_base.specs.declared.act.Reason.TheVariants as reason
 use Rattle.jx_base.specs.declared.ids.CallId.{CallId}
 use Rattle.jx_base.specs.declared.ids.ClassId.{ClassId}
 use Rattle.jx_base.specs.declared.ids.DomainId.{DomainId}
@@ -21,10 +19,10 @@ use Rattle.jx_base.specs.Histories.{Past, is_done, is_own}
 use Rattle.jx_model.specs.Domains.{is_birth, makes_domain, ended_by, ended_by_act}
 use Rattle.jx_model.specs.Threads.{new_threads}
 use Rattle.jx_model.specs.Portals.{is_export, exported_interface, services_made, received_service, received_parcel, gives_portal, bound_by_act}
-use Rattle.jx_model.specs.Calls.{Answer, is_call, asked_by, queued_as, is_take_of, is_resume_of, answered_by_act, answer_by_reply, answer_kind, thrown, service_of_call}
+use Rattle.jx_model.specs.Calls.{Answer, is_call, asked_by, queued_as, is_take_of, is_resume_of, answered_by_act, answer_by_reply, answer_kind, thrown}
 use Rattle.jx_model.specs.MemoryObjects.{Part, made_of, part_within, sides_at, object_part, is_valid, ends_one_of, lineage_of, objects_of, new_parts, extents_made, is_allocation, makes_extent, ended_object, allocated_bytes}
 use Rattle.jx_model.specs.Holding.{holds_object, received_objects, objects_in, is_drop_of, answer_objects, is_extent_in_use}
-use Rattle.jx_model.specs.Granules.{Run, lies_in, lies_in_one}
+use Rattle.jx_model.specs.Granules.{Run, lies_in}
 use Rattle.jx_model.specs.Permits.{is_choice, is_halt, zero_may}
 use Rattle.jx_model.specs.Replies.{reply_to, bound, done_within, copied}
 use Rattle.jx_model.specs.Bytes.{byte_at}
@@ -34,29 +32,29 @@ use Rattle.jx_model.specs.Legal.{IsNext}
 use Rattle.jx_base.proofs.BasicLaws.{ap2, and_false, and_true}
 use Rattle.table_threads.proofs.Records.{is_that, not_that, or_false, set_changed}
 use Rattle.table_threads.specs.Changes.{each_from, each_record, changed_at}
-use Rattle.table_threads.proofs.Actors.{acts_live, live_made, ended_was_live}
+use Rattle.table_threads.proofs.Actors.{acts_live}
 use Rattle.table_threads.specs.ThreadChanges.{born, thread_record_after, first_records, own_changed, own_added}
 use Rattle.table_threads.proofs.CallStages.{StandsAt, takes_queued, returns_running, throws_running}
 use Rattle.table_threads.proofs.ThreadActs.{threads_left, threads_stepped, threads_born, threads_exported}
 use Rattle.table_threads.proofs.CallRecords.{calls_counted, call_record_there}
-use Rattle.table_threads.specs.CallChanges.{entry, ended_call, owned_by}
-use Rattle.table_threads.proofs.CallActs.{calls_untouched, calls_after_call, waiting_after_call, calls_after_take, waiting_after_take, calls_after_answer, waiting_after_answer, running_not_queued, return_answers, throw_answers, sent_objects, calls_after_resume, waiting_after_resume, calls_after_end, waiting_after_end}
+use Rattle.table_threads.specs.CallChanges.{entry}
+use Rattle.table_threads.proofs.CallActs.{calls_untouched, calls_after_call, waiting_after_call, calls_after_take, waiting_after_take, calls_after_answer, waiting_after_answer, running_not_queued, return_answers, throw_answers, sent_objects, calls_after_resume, waiting_after_resume}
 use Rattle.table_objects.proofs.UsedBefore.{ByDomain}
 use Rattle.jx_model.proofs.DoneReplies.{undone}
 use Rattle.table_objects.proofs.ExtentsInUse.{in_use}
 use Rattle.table_objects.proofs.Parts.{part_extent, with_done}
-use Rattle.table_extents.specs.ExtentChanges.{written, freed_runs}
+use Rattle.table_extents.specs.ExtentChanges.{written}
 use Rattle.table_extents.proofs.ByteRecords.{bytes_after_fill, others_after_fill, bytes_after_set, others_after_set, bytes_after_copy, others_after_copy}
 use Rattle.jx_model.proofs.Exported.{exported_stays}
 use Rattle.table_objects.proofs.ServiceRecords.{services_more, services_kept, portals_same}
 use Rattle.table_objects.specs.ObjectChanges.{new_service_record, new_object_record, object_record_after}
 use Rattle.table_threads.proofs.Binds.{binds_after_bind}
 use Rattle.table_extents.proofs.ExtentRecords.{extents_more, extents_written, kept_bytes, extent_record_there}
-use Rattle.table_steps.specs.Steps.{with_entry, in_use_by, born_run, allocated_run}
+use Rattle.table_steps.specs.Steps.{with_entry, born_run, allocated_run}
 use Rattle.table_steps.proofs.Unchanged.{over_after, words_after, creates_after, no_drop, keeps_domains, keeps_services, keeps_names, keeps_calls, keeps_waiting, keeps_parts, keeps_objects, keeps_extents, keeps_taken}
 use Rattle.table_objects.specs.HolderChanges.{portals_after}
-use Rattle.table_steps.proofs.StepParts.{domains_born, domains_ended, services_stepped, objects_stepped, objects_beside, each_same, parts_added, extents_counted, extents_stepped, taken_freed, taken_born, allocated_run_is, taken_allocated}
-use Rattle.std.specs.Option.{option_map, unwrap_or}
+use Rattle.table_steps.proofs.StepParts.{domains_born, services_stepped, objects_stepped, objects_beside, each_same, parts_added, extents_counted, taken_born, allocated_run_is, taken_allocated}
+use Rattle.std.specs.Option.{option_map}
 
 both_hold : (x y : Bool) → not (x && y) ≡ false → (x ≡ true) × (y ≡ true)
 both_hold true true h = (refl, refl)
@@ -513,91 +511,3 @@ stands_after_copy s k d t j j_at m at count source o i h n q z y =
         ∙ sym (set_changed i (λ (item : ExtentRecord). record item { bytes = option_map (written 0 (o.from + not_below_zero at) (not_below_zero count) (λ x. byte_at k.past source.extent (source.from + (not_below_zero j_at + x)))) item.bytes }) (extent_records k.past) (extent_record k.past o.extent) (extent_record_there k.past o.extent i z made))
         ∙ ap (set (extent_records k.past) i) (sym record_is)
         ∙ sym (extents_written s (entry d t (act.Copy j j_at m at count) reply.Done) k.past o.extent i ((written 0 (o.from + not_below_zero at) (not_below_zero count) (λ x. byte_at k.past source.extent (source.from + (not_below_zero j_at + x)))) (extent_bytes k.past o.extent)) (n, h.admitted) refl refl (no_drop (entry d t (act.Copy j j_at m at count) reply.Done) (λ x. refl)) z made used (bytes_after_copy d t k.past j j_at m o at count source is from_is made) (λ y u v. others_after_copy d t k.past j j_at m o at count y source is from_is u v))
-
--- a release
-pub stands_after_release : (s : System) (k : Kept) (d t : ℕ) (m : ObjectId) → StandsFor s k → IsNext s k.past (entry d t (act.Release m) reply.Done) →
-    StandsFor s (record (with_entry k (entry d t (act.Release m) reply.Done)) { objects = (each_record (object_record_after (entry d t (act.Release m) reply.Done) k.parts k.calls) k.objects); extents = each_record (λ x item. record item { bytes = if in_use_by k.parts (each_record (object_record_after (entry d t (act.Release m) reply.Done) k.parts k.calls) k.objects) x then item.bytes else None }) k.extents; taken = each_from (λ i used. used && not (lies_in_one (freed_runs s (entry d t (act.Release m) reply.Done) k.past) i)) 0 k.taken })
-unfolding is_birth makes_domain ended_by ended_by_act is_export exported_interface received_service received_parcel bound_by_act is_call asked_by queued_as is_take_of is_resume_of answered_by_act new_parts received_objects objects_in is_drop_of ended_object is_allocation makes_extent is_done new_threads is_choice
-stands_after_release s k d t m h n =
-    record {
-      admitted = (n, h.admitted);
-      over = over_after s k (entry d t (act.Release m) reply.Done) h n;
-      words = words_after s k (entry d t (act.Release m) reply.Done) h n;
-      creates = creates_after s k (entry d t (act.Release m) reply.Done) h n;
-      domains = keeps_domains s k (entry d t (act.Release m) reply.Done) h n (record { birth = refl; ends = refl });
-      threads = h.threads ∙ sym (threads_left s k.past (entry d t (act.Release m) reply.Done) n refl refl refl refl);
-      services = keeps_services s k (entry d t (act.Release m) reply.Done) h n (record { export = refl; service = refl; parcel = refl; bind = λ x. refl }) refl;
-      names = keeps_names s k (entry d t (act.Release m) reply.Done) h n (λ x. refl);
-      calls = keeps_calls s k (entry d t (act.Release m) reply.Done) h n (record { call = refl; ends = refl; take = λ x. refl; resume = λ x. refl; answer = λ x. refl });
-      waiting = keeps_waiting s k (entry d t (act.Release m) reply.Done) h n (record { call = refl; ends = refl; take = λ x. refl; resume = λ x. refl; answer = λ x. refl });
-      parts = keeps_parts s k (entry d t (act.Release m) reply.Done) h n refl;
-      objects = (objects_stepped s k (entry d t (act.Release m) reply.Done) h n k.calls refl (keeps_calls s k (entry d t (act.Release m) reply.Done) h n (record { call = refl; ends = refl; take = λ x. refl; resume = λ x. refl; answer = λ x. refl })));
-      extents = extents_stepped s k (entry d t (act.Release m) reply.Done) h n k.parts (each_record (object_record_after (entry d t (act.Release m) reply.Done) k.parts k.calls) k.objects) refl refl (keeps_parts s k (entry d t (act.Release m) reply.Done) h n refl) (objects_stepped s k (entry d t (act.Release m) reply.Done) h n k.calls refl (keeps_calls s k (entry d t (act.Release m) reply.Done) h n (record { call = refl; ends = refl; take = λ x. refl; resume = λ x. refl; answer = λ x. refl })));
-      taken = taken_freed s k (entry d t (act.Release m) reply.Done) h n refl refl;
-    }
-
--- an exit
-pub stands_after_exit : (s : System) (k : Kept) (d t : ℕ) (code : ℤ) (r : Reply) (i : ℕ) → StandsFor s k → IsNext s k.past (entry d t (act.Exit code) r) → d ≡ i + 1 →
-    StandsFor s (record (with_entry k (entry d t (act.Exit code) r)) { domains = changed_at i (λ item. record item { ended = Some (reason.Exit code) }) k.domains; services = each_record (λ nth item. record item { holders = portals_after (entry d t (act.Exit code) r) nth item.holders }) k.services; calls = (map (ended_call (owned_by k.past d) d (length k.past)) k.calls); waiting = filter (λ c. not (owned_by k.past d (unwrap_or (service_of_call k.past c) 0))) k.waiting; objects = (each_record (object_record_after (entry d t (act.Exit code) r) k.parts (map (ended_call (owned_by k.past d) d (length k.past)) k.calls)) k.objects); extents = each_record (λ x item. record item { bytes = if in_use_by k.parts (each_record (object_record_after (entry d t (act.Exit code) r) k.parts (map (ended_call (owned_by k.past d) d (length k.past)) k.calls)) k.objects) x then item.bytes else None }) k.extents; taken = each_from (λ i used. used && not (lies_in_one (freed_runs s (entry d t (act.Exit code) r) k.past) i)) 0 k.taken })
-unfolding is_birth makes_domain ended_by ended_by_act is_export exported_interface received_service received_parcel bound_by_act is_call asked_by queued_as is_take_of is_resume_of answered_by_act new_parts received_objects objects_in is_drop_of ended_object is_allocation makes_extent is_done new_threads is_choice
-stands_after_exit s k d t code r i h n q =
-    record {
-      admitted = (n, h.admitted);
-      over = over_after s k (entry d t (act.Exit code) r) h n;
-      words = words_after s k (entry d t (act.Exit code) r) h n;
-      creates = creates_after s k (entry d t (act.Exit code) r) h n;
-      domains = domains_ended s k (entry d t (act.Exit code) r) h n d i (reason.Exit code) refl refl q (live_made k.past d (ended_was_live s k.past (entry d t (act.Exit code) r) d (reason.Exit code) n refl)).high;
-      threads = h.threads ∙ sym (threads_left s k.past (entry d t (act.Exit code) r) n refl refl refl refl);
-      services = services_stepped s k (entry d t (act.Exit code) r) h n refl;
-      names = keeps_names s k (entry d t (act.Exit code) r) h n (λ x. refl);
-      calls = (ap (map (ended_call (owned_by k.past d) d (length k.past))) h.calls ∙ sym (calls_after_end s k.past (entry d t (act.Exit code) r) d h.admitted (record { why = (reason.Exit code); ends = refl; call = refl; take = λ x. refl; resume = λ x. refl; answer = λ x. refl })));
-      waiting = ap (filter (λ c. not (owned_by k.past d (unwrap_or (service_of_call k.past c) 0)))) h.waiting ∙ sym (waiting_after_end k.past (entry d t (act.Exit code) r) d (record { why = (reason.Exit code); ends = refl; call = refl; take = λ x. refl; resume = λ x. refl; answer = λ x. refl }));
-      parts = keeps_parts s k (entry d t (act.Exit code) r) h n refl;
-      objects = (objects_stepped s k (entry d t (act.Exit code) r) h n (map (ended_call (owned_by k.past d) d (length k.past)) k.calls) refl (ap (map (ended_call (owned_by k.past d) d (length k.past))) h.calls ∙ sym (calls_after_end s k.past (entry d t (act.Exit code) r) d h.admitted (record { why = (reason.Exit code); ends = refl; call = refl; take = λ x. refl; resume = λ x. refl; answer = λ x. refl }))));
-      extents = extents_stepped s k (entry d t (act.Exit code) r) h n k.parts (each_record (object_record_after (entry d t (act.Exit code) r) k.parts (map (ended_call (owned_by k.past d) d (length k.past)) k.calls)) k.objects) refl (and_false (is_done r)) (keeps_parts s k (entry d t (act.Exit code) r) h n refl) (objects_stepped s k (entry d t (act.Exit code) r) h n (map (ended_call (owned_by k.past d) d (length k.past)) k.calls) refl (ap (map (ended_call (owned_by k.past d) d (length k.past))) h.calls ∙ sym (calls_after_end s k.past (entry d t (act.Exit code) r) d h.admitted (record { why = (reason.Exit code); ends = refl; call = refl; take = λ x. refl; resume = λ x. refl; answer = λ x. refl }))));
-      taken = taken_freed s k (entry d t (act.Exit code) r) h n refl refl;
-    }
-
--- an end
-pub stands_after_end : (s : System) (k : Kept) (d t : ℕ) (why : Reason) (r : Reply) (i : ℕ) → StandsFor s k → IsNext s k.past (entry d t (act.End why) r) → d ≡ i + 1 →
-    StandsFor s (record (with_entry k (entry d t (act.End why) r)) { domains = changed_at i (λ item. record item { ended = Some why }) k.domains; services = each_record (λ nth item. record item { holders = portals_after (entry d t (act.End why) r) nth item.holders }) k.services; calls = (map (ended_call (owned_by k.past d) d (length k.past)) k.calls); waiting = filter (λ c. not (owned_by k.past d (unwrap_or (service_of_call k.past c) 0))) k.waiting; objects = (each_record (object_record_after (entry d t (act.End why) r) k.parts (map (ended_call (owned_by k.past d) d (length k.past)) k.calls)) k.objects); extents = each_record (λ x item. record item { bytes = if in_use_by k.parts (each_record (object_record_after (entry d t (act.End why) r) k.parts (map (ended_call (owned_by k.past d) d (length k.past)) k.calls)) k.objects) x then item.bytes else None }) k.extents; taken = each_from (λ i used. used && not (lies_in_one (freed_runs s (entry d t (act.End why) r) k.past) i)) 0 k.taken })
-unfolding is_birth makes_domain ended_by ended_by_act is_export exported_interface received_service received_parcel bound_by_act is_call asked_by queued_as is_take_of is_resume_of answered_by_act new_parts received_objects objects_in is_drop_of ended_object is_allocation makes_extent is_done new_threads is_choice
-stands_after_end s k d t why r i h n q =
-    record {
-      admitted = (n, h.admitted);
-      over = over_after s k (entry d t (act.End why) r) h n;
-      words = words_after s k (entry d t (act.End why) r) h n;
-      creates = creates_after s k (entry d t (act.End why) r) h n;
-      domains = domains_ended s k (entry d t (act.End why) r) h n d i why refl refl q (live_made k.past d (ended_was_live s k.past (entry d t (act.End why) r) d why n refl)).high;
-      threads = h.threads ∙ sym (threads_left s k.past (entry d t (act.End why) r) n refl refl refl refl);
-      services = services_stepped s k (entry d t (act.End why) r) h n refl;
-      names = keeps_names s k (entry d t (act.End why) r) h n (λ x. refl);
-      calls = (ap (map (ended_call (owned_by k.past d) d (length k.past))) h.calls ∙ sym (calls_after_end s k.past (entry d t (act.End why) r) d h.admitted (record { why = why; ends = refl; call = refl; take = λ x. refl; resume = λ x. refl; answer = λ x. refl })));
-      waiting = ap (filter (λ c. not (owned_by k.past d (unwrap_or (service_of_call k.past c) 0)))) h.waiting ∙ sym (waiting_after_end k.past (entry d t (act.End why) r) d (record { why = why; ends = refl; call = refl; take = λ x. refl; resume = λ x. refl; answer = λ x. refl }));
-      parts = keeps_parts s k (entry d t (act.End why) r) h n refl;
-      objects = (objects_stepped s k (entry d t (act.End why) r) h n (map (ended_call (owned_by k.past d) d (length k.past)) k.calls) refl (ap (map (ended_call (owned_by k.past d) d (length k.past))) h.calls ∙ sym (calls_after_end s k.past (entry d t (act.End why) r) d h.admitted (record { why = why; ends = refl; call = refl; take = λ x. refl; resume = λ x. refl; answer = λ x. refl }))));
-      extents = extents_stepped s k (entry d t (act.End why) r) h n k.parts (each_record (object_record_after (entry d t (act.End why) r) k.parts (map (ended_call (owned_by k.past d) d (length k.past)) k.calls)) k.objects) refl (and_false (is_done r)) (keeps_parts s k (entry d t (act.End why) r) h n refl) (objects_stepped s k (entry d t (act.End why) r) h n (map (ended_call (owned_by k.past d) d (length k.past)) k.calls) refl (ap (map (ended_call (owned_by k.past d) d (length k.past))) h.calls ∙ sym (calls_after_end s k.past (entry d t (act.End why) r) d h.admitted (record { why = why; ends = refl; call = refl; take = λ x. refl; resume = λ x. refl; answer = λ x. refl }))));
-      taken = taken_freed s k (entry d t (act.End why) r) h n refl refl;
-    }
-
--- a done kill
-pub stands_after_kill : (s : System) (k : Kept) (d t : ℕ) (j : ℤ) (i : ℕ) → StandsFor s k → IsNext s k.past (entry d t (act.Kill j) reply.Done) → (not_below_zero j) ≡ i + 1 →
-    StandsFor s (record (with_entry k (entry d t (act.Kill j) reply.Done)) { domains = changed_at i (λ item. record item { ended = Some reason.Killed }) k.domains; services = each_record (λ nth item. record item { holders = portals_after (entry d t (act.Kill j) reply.Done) nth item.holders }) k.services; calls = (map (ended_call (owned_by k.past (not_below_zero j)) (not_below_zero j) (length k.past)) k.calls); waiting = filter (λ c. not (owned_by k.past (not_below_zero j) (unwrap_or (service_of_call k.past c) 0))) k.waiting; objects = (each_record (object_record_after (entry d t (act.Kill j) reply.Done) k.parts (map (ended_call (owned_by k.past (not_below_zero j)) (not_below_zero j) (length k.past)) k.calls)) k.objects); extents = each_record (λ x item. record item { bytes = if in_use_by k.parts (each_record (object_record_after (entry d t (act.Kill j) reply.Done) k.parts (map (ended_call (owned_by k.past (not_below_zero j)) (not_below_zero j) (length k.past)) k.calls)) k.objects) x then item.bytes else None }) k.extents; taken = each_from (λ i used. used && not (lies_in_one (freed_runs s (entry d t (act.Kill j) reply.Done) k.past) i)) 0 k.taken })
-unfolding is_birth makes_domain ended_by ended_by_act is_export exported_interface received_service received_parcel bound_by_act is_call asked_by queued_as is_take_of is_resume_of answered_by_act new_parts received_objects objects_in is_drop_of ended_object is_allocation makes_extent is_done new_threads is_choice
-stands_after_kill s k d t j i h n q =
-    record {
-      admitted = (n, h.admitted);
-      over = over_after s k (entry d t (act.Kill j) reply.Done) h n;
-      words = words_after s k (entry d t (act.Kill j) reply.Done) h n;
-      creates = creates_after s k (entry d t (act.Kill j) reply.Done) h n;
-      domains = domains_ended s k (entry d t (act.Kill j) reply.Done) h n (not_below_zero j) i reason.Killed refl refl q (live_made k.past (not_below_zero j) (ended_was_live s k.past (entry d t (act.Kill j) reply.Done) (not_below_zero j) reason.Killed n refl)).high;
-      threads = h.threads ∙ sym (threads_left s k.past (entry d t (act.Kill j) reply.Done) n refl refl refl refl);
-      services = services_stepped s k (entry d t (act.Kill j) reply.Done) h n refl;
-      names = keeps_names s k (entry d t (act.Kill j) reply.Done) h n (λ x. refl);
-      calls = (ap (map (ended_call (owned_by k.past (not_below_zero j)) (not_below_zero j) (length k.past))) h.calls ∙ sym (calls_after_end s k.past (entry d t (act.Kill j) reply.Done) (not_below_zero j) h.admitted (record { why = reason.Killed; ends = refl; call = refl; take = λ x. refl; resume = λ x. refl; answer = λ x. refl })));
-      waiting = ap (filter (λ c. not (owned_by k.past (not_below_zero j) (unwrap_or (service_of_call k.past c) 0)))) h.waiting ∙ sym (waiting_after_end k.past (entry d t (act.Kill j) reply.Done) (not_below_zero j) (record { why = reason.Killed; ends = refl; call = refl; take = λ x. refl; resume = λ x. refl; answer = λ x. refl }));
-      parts = keeps_parts s k (entry d t (act.Kill j) reply.Done) h n refl;
-      objects = (objects_stepped s k (entry d t (act.Kill j) reply.Done) h n (map (ended_call (owned_by k.past (not_below_zero j)) (not_below_zero j) (length k.past)) k.calls) refl (ap (map (ended_call (owned_by k.past (not_below_zero j)) (not_below_zero j) (length k.past))) h.calls ∙ sym (calls_after_end s k.past (entry d t (act.Kill j) reply.Done) (not_below_zero j) h.admitted (record { why = reason.Killed; ends = refl; call = refl; take = λ x. refl; resume = λ x. refl; answer = λ x. refl }))));
-      extents = extents_stepped s k (entry d t (act.Kill j) reply.Done) h n k.parts (each_record (object_record_after (entry d t (act.Kill j) reply.Done) k.parts (map (ended_call (owned_by k.past (not_below_zero j)) (not_below_zero j) (length k.past)) k.calls)) k.objects) refl refl (keeps_parts s k (entry d t (act.Kill j) reply.Done) h n refl) (objects_stepped s k (entry d t (act.Kill j) reply.Done) h n (map (ended_call (owned_by k.past (not_below_zero j)) (not_below_zero j) (length k.past)) k.calls) refl (ap (map (ended_call (owned_by k.past (not_below_zero j)) (not_below_zero j) (length k.past))) h.calls ∙ sym (calls_after_end s k.past (entry d t (act.Kill j) reply.Done) (not_below_zero j) h.admitted (record { why = reason.Killed; ends = refl; call = refl; take = λ x. refl; resume = λ x. refl; answer = λ x. refl }))));
-      taken = taken_freed s k (entry d t (act.Kill j) reply.Done) h n refl refl;
-    }

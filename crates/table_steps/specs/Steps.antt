@@ -1,19 +1,24 @@
 -- All that is kept, at the start and with one more entry.
-use Rattle.std.specs.Prelude.{ℕ, ◌+◌, Bool, false, [], replicate, ◌&&◌, ◌||◌, List, ◌∷◌, if◌then◌else◌, ◌-◌, length, ◌==◌, nat_lt}
-use Rattle.std.specs.List.{list_any}
+use Rattle.std.specs.Prelude.{ℕ, ◌+◌, ◌-◌, Bool, false, not, ◌&&◌, ◌||◌, List, [], ◌∷◌, length, map, filter, replicate, Option, Some, None, is_some, ◌==◌, nat_lt, if◌then◌else◌}
+use Rattle.std.specs.List.{list_any, cons_option}
+use Rattle.std.specs.Option.{option_and_then, option_map, unwrap_or}
+use Rattle.jx_base.specs.declared.act.Entry.{Entry}
+use Rattle.jx_base.specs.declared.act.Reason.{Reason}
 use Rattle.jx_base.specs.declared.program.System.{System}
-use Rattle.jx_base.specs.Basics.{up_to, passes, numbered}
+use Rattle.jx_base.specs.declared.states.DomainState.{DomainState}
+use Rattle.jx_base.specs.Basics.{up_to, passes, numbered, is_number}
 use Rattle.program_model.specs.Limits.{granule_limit}
 use Rattle.jx_model.specs.Journal.{entry_words}
-use Rattle.jx_model.specs.Permits.{is_ending, is_create_entry}
-use Rattle.jx_model.specs.MemoryObjects.{Part, allocated_bytes}
-use Rattle.jx_model.specs.Granules.{Run, heap_granules, extent_granules}
-use Rattle.jx_model.specs.Tables.{Kept, ObjectRecord}
-use Rattle.jx_base.specs.declared.act.Entry.{Entry}
 use Rattle.jx_model.specs.Domains.{named_template, reply_granule}
-use Rattle.jx_model.specs.Holding.{holders}
-use Rattle.table_threads.specs.Changes.{is_set}
-use Rattle.std.specs.Option.{option_map, unwrap_or}
+use Rattle.jx_model.specs.MemoryObjects.{Part, allocated_bytes}
+use Rattle.jx_model.specs.Granules.{Run, heap_granules, extent_granules, lies_in_one}
+use Rattle.jx_model.specs.Permits.{is_ending, is_create_entry}
+use Rattle.jx_model.specs.Tables.{Kept, ServiceRecord, CallRecord, ObjectRecord, ExtentRecord}
+use Rattle.table_threads.specs.Changes.{is_set, each_from, each_record, changed_at}
+use Rattle.table_threads.specs.CallChanges.{ended_call}
+use Rattle.table_objects.specs.HolderChanges.{portals_after}
+use Rattle.table_objects.specs.ObjectChanges.{object_record_after}
+use Rattle.table_reads.specs.TableReads.{owner_in, service_in}
 
 -- what is kept before the first entry
 abbrev pub first_kept : System → Kept
@@ -60,3 +65,64 @@ born_run s e = (reply_granule e.reply, unwrap_or (option_map (heap_granules s) (
 -- the run of a new extent
 abbrev pub allocated_run : Entry → Run
 allocated_run e = (reply_granule e.reply, extent_granules (allocated_bytes e.act))
+
+-- ---- what ends
+
+-- whether domain d owns the service
+abbrev pub owns : List ServiceRecord → ℕ → ℕ → Bool
+owns services d k = is_number (owner_in services k) d
+
+-- whether the call is to a service of domain d
+abbrev pub is_call_to : List ServiceRecord → List CallRecord → ℕ → ℕ → Bool
+is_call_to services calls d c = is_number (option_and_then (owner_in services) (service_in calls c)) d
+
+-- the run of a domain's heap, by its record
+abbrev pub heap_of : System → DomainState → Run
+heap_of s item = (item.at, heap_granules s item.template)
+
+-- the run of the heap of domain d
+abbrev pub heap_in : System → List DomainState → ℕ → Run
+heap_in s domains d = unwrap_or (option_map (heap_of s) (numbered domains d)) (0, 0)
+
+-- the runs of extents, the first with that number, that were in use and are no more with these objects
+abbrev pub freed_from : List Part → List ObjectRecord → ℕ → List ExtentRecord → List Run
+freed_from parts objects x [] = []
+freed_from parts objects x (item ∷ items) =
+    cons_option (if is_some item.bytes && not (in_use_by parts objects x) then Some item.run else None)
+    (freed_from parts objects (x + 1) items)
+
+-- the extents, with the bytes of those that are in use with these objects
+abbrev pub kept_extents : List Part → List ObjectRecord → List ExtentRecord → List ExtentRecord
+kept_extents parts objects items =
+    each_record (λ x item. record item { bytes = if in_use_by parts objects x then item.bytes else None }) items
+
+-- the granules in use without those of the runs
+abbrev pub without_runs : List Run → List Bool → List Bool
+without_runs runs taken = each_from (λ g used. used && not (lies_in_one runs g)) 0 taken
+
+-- ---- all that is kept after a release, and after the end of a domain
+
+-- after a release
+abbrev pub after_release : Kept → Entry → Kept
+after_release k e =
+    let objects : List ObjectRecord = each_record (object_record_after e k.parts k.calls) k.objects in
+    record (with_entry k e) {
+      objects = objects;
+      extents = kept_extents k.parts objects k.extents;
+      taken = without_runs (freed_from k.parts objects 1 k.extents) k.taken;
+    }
+
+-- after an entry that ends domain d for that reason
+abbrev pub after_end : System → Kept → Entry → ℕ → Reason → Kept
+after_end s k e d why =
+    let calls : List CallRecord = map (ended_call (owns k.services d) d (length k.past)) k.calls in
+    let objects : List ObjectRecord = each_record (object_record_after e k.parts calls) k.objects in
+    record (with_entry k e) {
+      domains = changed_at (d - 1) (λ item. record item { ended = Some why }) k.domains;
+      services = each_record (λ j item. record item { holders = portals_after e j item.holders }) k.services;
+      calls = calls;
+      waiting = filter (λ c. not (is_call_to k.services k.calls d c)) k.waiting;
+      objects = objects;
+      extents = kept_extents k.parts objects k.extents;
+      taken = without_runs (heap_in s k.domains d ∷ freed_from k.parts objects 1 k.extents) k.taken;
+    }
