@@ -7,7 +7,6 @@ use Rattle.jx_base.specs.declared.program.System.{System}
 use Rattle.jx_base.specs.Basics.{up_to}
 use Rattle.jx_base.specs.Histories.{Past}
 use Rattle.jx_model.specs.MemoryObjects.{extents_made}
-use Rattle.table_threads.specs.CallChanges.{entry}
 use Rattle.jx_model.specs.Domains.{is_live, domains_made}
 use Rattle.jx_model.specs.Holding.{is_extent_in_use}
 use Rattle.jx_model.specs.Granules.{Run, run_if, heap_run, extent_run}

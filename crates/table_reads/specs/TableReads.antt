@@ -1,5 +1,5 @@
 -- What is permitted, and what replies ask, in words of the tables alone.
-use Rattle.std.specs.Prelude.{ℕ, ◌+◌, Bool, true, false, not, ◌&&◌, ◌||◌, List, [], ◌∷◌, Option, Some, None, is_some, is_none, ◌==◌, if◌then◌else◌, filter, slice_get, nat_lt, ◌-◌}
+use Rattle.std.specs.Prelude.{ℕ, ◌+◌, Bool, true, false, not, ◌&&◌, ◌||◌, List, [], ◌∷◌, Option, Some, None, is_some, is_none, ◌==◌, if◌then◌else◌, filter, slice_get, nat_lt}
 use Rattle.jx_base.specs.declared.act.Act.{Act}
 use Rattle.jx_base.specs.declared.act.Act.TheVariants as act
 use Rattle.jx_base.specs.declared.ids.ServiceId.{ServiceId}
