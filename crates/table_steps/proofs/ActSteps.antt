@@ -11,7 +11,6 @@ use Rattle.jx_base.specs.declared.ids.ObjectId.{ObjectId}
 use Rattle.jx_base.specs.declared.ids.ServiceId.{ServiceId}
 use Rattle.jx_base.specs.declared.value.Parcel.{Parcel}
 use Rattle.jx_base.specs.declared.states.CallState.TheVariants as call
-use Rattle.jx_base.specs.declared.states.AnswerKind.{AnswerKind}
 use Rattle.jx_base.specs.declared.program.System.{System}
 use Rattle.jx_base.specs.Basics.{passes, is_number, not_below_zero, contains_number, numbered, low_byte}
 use Rattle.program_model.specs.ParcelParts.{parcel_objects}
@@ -24,7 +23,7 @@ use Rattle.jx_model.specs.MemoryObjects.{Part, made_of, part_within, sides_at, o
 use Rattle.jx_model.specs.Holding.{holds_object, received_objects, objects_in, is_drop_of, answer_objects, is_extent_in_use}
 use Rattle.jx_model.specs.Granules.{Run, lies_in}
 use Rattle.jx_model.specs.Permits.{is_choice, is_halt, zero_may}
-use Rattle.jx_model.specs.Replies.{reply_to, bound, done_within, copied}
+use Rattle.jx_model.specs.Replies.{reply_to, bound, done_within, copied, new_service, ◌refuses◌else◌}
 use Rattle.jx_model.specs.Bytes.{byte_at}
 use Rattle.jx_model.specs.Growth.{new_object_numbers}
 use Rattle.jx_model.specs.Tables.{Kept, StandsFor, ThreadRecord, ServiceRecord, CallRecord, call_record, ExtentRecord, extent_record, extent_bytes, ObjectRecord, call_records, extent_records}
@@ -34,11 +33,11 @@ use Rattle.table_threads.proofs.Records.{is_that, not_that, or_false, set_change
 use Rattle.table_threads.specs.Changes.{each_from, each_record, changed_at}
 use Rattle.table_threads.proofs.Actors.{acts_live}
 use Rattle.table_threads.specs.ThreadChanges.{born, thread_record_after, first_records, own_changed, own_added}
-use Rattle.table_threads.proofs.CallStages.{StandsAt, takes_queued, returns_running, throws_running}
+use Rattle.table_threads.proofs.CallStages.{takes_queued, returns_running, throws_running}
 use Rattle.table_threads.proofs.ThreadActs.{threads_left, threads_stepped, threads_born, threads_exported}
 use Rattle.table_threads.proofs.CallRecords.{calls_counted, call_record_there}
 use Rattle.table_threads.specs.CallChanges.{entry}
-use Rattle.table_threads.proofs.CallActs.{calls_untouched, calls_after_call, waiting_after_call, calls_after_take, waiting_after_take, calls_after_answer, waiting_after_answer, running_not_queued, return_answers, throw_answers, sent_objects, calls_after_resume, waiting_after_resume}
+use Rattle.table_threads.proofs.CallActs.{calls_untouched, calls_after_call, waiting_after_call, calls_after_take, waiting_after_take, calls_after_answer, waiting_after_answer, running_not_queued, return_answers, throw_answers, sent_objects, calls_after_resume, waiting_after_resume, resumes_stand}
 use Rattle.table_objects.proofs.UsedBefore.{ByDomain}
 use Rattle.jx_model.proofs.DoneReplies.{undone}
 use Rattle.table_objects.proofs.ExtentsInUse.{in_use}
@@ -47,14 +46,17 @@ use Rattle.table_extents.specs.ExtentChanges.{written}
 use Rattle.table_extents.proofs.ByteRecords.{bytes_after_fill, others_after_fill, bytes_after_set, others_after_set, bytes_after_copy, others_after_copy}
 use Rattle.jx_model.proofs.Exported.{exported_stays}
 use Rattle.table_objects.proofs.ServiceRecords.{services_more, services_kept, portals_same}
-use Rattle.table_objects.specs.ObjectChanges.{new_service_record, new_object_record, object_record_after}
+use Rattle.table_objects.specs.ObjectChanges.{new_service_record, new_object_record}
 use Rattle.table_threads.proofs.Binds.{binds_after_bind}
 use Rattle.table_extents.proofs.ExtentRecords.{extents_more, extents_written, kept_bytes, extent_record_there}
-use Rattle.table_steps.specs.Steps.{with_entry, born_run, allocated_run}
+use Rattle.table_steps.specs.Steps.{with_entry, born_run, allocated_run, after_call, after_take, after_answer, after_resume}
 use Rattle.table_steps.proofs.Unchanged.{over_after, words_after, creates_after, no_drop, keeps_domains, keeps_services, keeps_names, keeps_calls, keeps_waiting, keeps_parts, keeps_objects, keeps_extents, keeps_taken}
 use Rattle.table_objects.specs.HolderChanges.{portals_after}
 use Rattle.table_steps.proofs.StepParts.{domains_born, services_stepped, objects_stepped, objects_beside, each_same, parts_added, extents_counted, taken_born, allocated_run_is, taken_allocated}
 use Rattle.std.specs.Option.{option_map}
+use Rattle.std.specs.Prelude.{if◌then◌else◌, nat_le, ◌-◌}
+use Rattle.program_model.specs.Limits.{service_limit}
+use Rattle.jx_base.specs.declared.act.Refusal.TheVariants as refusal
 
 both_hold : (x y : Bool) → not (x && y) ≡ false → (x ≡ true) × (y ≡ true)
 both_hold true true h = (refl, refl)
@@ -68,6 +70,17 @@ copy_held past d j j_at m at count h =
     let x = undone (not (holds_object past d j.0 && holds_object past d m.0)) _ _ h in
     let y = undone (not (is_valid past j.0 && is_valid past m.0)) _ _ x.1 in
     ((both_hold (holds_object past d j.0) (holds_object past d m.0) x.0).1, (both_hold (is_valid past j.0) (is_valid past m.0) y.0).1)
+
+one_before : (x : ℕ) → 1 ≤ x → x ≡ (x - 1) + 1
+one_before x l = omega (arith, l)
+
+exported_number : (s : System) (past : Past) (d : ℕ) (iface : ClassId) (j : ℕ) (v : ServiceId) (c : ClassId) → reply.Service v c ≡ reply_to s past d (act.Export iface j) → v.0 ≡ services_made past + 1
+unfolding reply_to new_service ◌refuses◌else◌
+exported_number s past d iface j v c q = by (nat_le (service_limit s) (services_made past)) q
+  where
+    by : (b : Bool) → reply.Service v c ≡ (if b then reply.Refused refusal.TooMany else reply.Service (record { 0 = services_made past + 1 }) iface) → v.0 ≡ services_made past + 1
+    by true q = cc
+    by false q = let z : v ≡ record { 0 = services_made past + 1 } = cc in ap (λ (y : ServiceId). y.0) z
 
 -- a create that makes a domain
 pub stands_after_create : (s : System) (k : Kept) (d t : ℕ) (x : ℕ) (j : DomainId) (g : ℕ) → StandsFor s k → IsNext s k.past (entry d t (act.Create x) (reply.Domain j g)) →
@@ -114,10 +127,10 @@ stands_after_spawn s k d t x j g h n =
     }
 
 -- an export that makes a service
-pub stands_after_export : (s : System) (k : Kept) (d t : ℕ) (iface : ClassId) (j : ℕ) (v : ServiceId) (c : ClassId) → StandsFor s k → IsNext s k.past (entry d t (act.Export iface j) (reply.Service v c)) → v.0 ≡ services_made k.past + 1 →
+pub stands_after_export : (s : System) (k : Kept) (d t : ℕ) (iface : ClassId) (j : ℕ) (v : ServiceId) (c : ClassId) → StandsFor s k → IsNext s k.past (entry d t (act.Export iface j) (reply.Service v c)) →
     StandsFor s (record (with_entry k (entry d t (act.Export iface j) (reply.Service v c))) { threads = own_added d (replicate j v) k.threads; services = k.services ++ new_service_record s d (Some iface) ∷ [] })
 unfolding is_birth makes_domain ended_by ended_by_act is_export exported_interface received_service received_parcel bound_by_act is_call asked_by queued_as is_take_of is_resume_of answered_by_act new_parts received_objects objects_in is_drop_of ended_object is_allocation makes_extent is_done new_threads is_choice is_halt zero_may gives_portal is_number passes
-stands_after_export s k d t iface j v c h n q =
+stands_after_export s k d t iface j v c h n =
     record {
       admitted = (n, h.admitted);
       over = over_after s k (entry d t (act.Export iface j) (reply.Service v c)) h n;
@@ -125,7 +138,7 @@ stands_after_export s k d t iface j v c h n q =
       creates = creates_after s k (entry d t (act.Export iface j) (reply.Service v c)) h n;
       domains = keeps_domains s k (entry d t (act.Export iface j) (reply.Service v c)) h n (record { birth = refl; ends = refl });
       threads = ap (own_added d (replicate j v)) h.threads ∙ sym (threads_exported s k.past (entry d t (act.Export iface j) (reply.Service v c)) (n, h.admitted) refl refl refl);
-      services = ap (λ (xs : List ServiceRecord). xs ++ new_service_record s d (Some iface) ∷ []) h.services ∙ sym (services_more s (entry d t (act.Export iface j) (reply.Service v c)) k.past n refl (or_false (v.0 == services_made k.past + 1) ∙ is_that v.0 (services_made k.past + 1) q) refl (λ b i l u. ap (λ (x : Bool). is_own b (entry d t (act.Export iface j) (reply.Service v c)) && (x || false)) (not_that v.0 i (λ z. omega (arith, z, q, u))) ∙ and_false (is_own b (entry d t (act.Export iface j) (reply.Service v c)))));
+      services = ap (λ (xs : List ServiceRecord). xs ++ new_service_record s d (Some iface) ∷ []) h.services ∙ sym (services_more s (entry d t (act.Export iface j) (reply.Service v c)) k.past n refl (or_false (v.0 == services_made k.past + 1) ∙ is_that v.0 (services_made k.past + 1) number) refl (λ b i l u. ap (λ (x : Bool). is_own b (entry d t (act.Export iface j) (reply.Service v c)) && (x || false)) (not_that v.0 i (λ z. omega (arith, z, number, u))) ∙ and_false (is_own b (entry d t (act.Export iface j) (reply.Service v c)))));
       names = keeps_names s k (entry d t (act.Export iface j) (reply.Service v c)) h n (λ x. refl);
       calls = keeps_calls s k (entry d t (act.Export iface j) (reply.Service v c)) h n (record { call = refl; ends = refl; take = λ x. refl; resume = λ x. refl; answer = λ x. refl });
       waiting = keeps_waiting s k (entry d t (act.Export iface j) (reply.Service v c)) h n (record { call = refl; ends = refl; take = λ x. refl; resume = λ x. refl; answer = λ x. refl });
@@ -134,6 +147,9 @@ stands_after_export s k d t iface j v c h n q =
       extents = keeps_extents s k (entry d t (act.Export iface j) (reply.Service v c)) h n refl refl (λ x. refl) refl;
       taken = keeps_taken s k (entry d t (act.Export iface j) (reply.Service v c)) h n (record { birth = refl; ends = refl }) refl (λ x. refl);
     }
+  where
+    number : v.0 ≡ services_made k.past + 1
+    number = exported_number s k.past d iface j v c n.reply
 
 -- a bind
 pub stands_after_bind : (s : System) (k : Kept) (d t : ℕ) (name : List ℕ) (v : ServiceId) → StandsFor s k → IsNext s k.past (entry d t (act.Bind name v) reply.Done) →
@@ -181,7 +197,7 @@ stands_after_lookup s k d t name v c h n =
 
 -- a call that is queued
 pub stands_after_call : (s : System) (k : Kept) (d t : ℕ) (v : ServiceId) (m : MethodId) (p : Parcel) (c : CallId) → StandsFor s k → IsNext s k.past (entry d t (act.Call v m p) (reply.Queued c)) →
-    StandsFor s (record (with_entry k (entry d t (act.Call v m p) (reply.Queued c))) { threads = own_changed d t (λ item. thread_record_after item (act.Call v m p) (reply.Queued c)) k.threads; calls = (k.calls ++ (record { caller = d; thread = t; service = v.0; state = call.Queued; carried = parcel_objects p; queued_at = length k.past; answered_at = None }) ∷ []); waiting = k.waiting ++ (length k.calls + 1) ∷ []; objects = each_record (object_record_after (entry d t (act.Call v m p) (reply.Queued c)) k.parts (k.calls ++ (record { caller = d; thread = t; service = v.0; state = call.Queued; carried = parcel_objects p; queued_at = length k.past; answered_at = None }) ∷ [])) k.objects })
+    StandsFor s (after_call k (entry d t (act.Call v m p) (reply.Queued c)) v p)
 unfolding is_birth makes_domain ended_by ended_by_act is_export exported_interface received_service received_parcel bound_by_act is_call asked_by queued_as is_take_of is_resume_of answered_by_act new_parts received_objects objects_in is_drop_of ended_object is_allocation makes_extent is_done new_threads is_choice
 stands_after_call s k d t v m p c h n =
     record {
@@ -202,10 +218,10 @@ stands_after_call s k d t v m p c h n =
     }
 
 -- a take
-pub stands_after_take : (s : System) (k : Kept) (d t : ℕ) (c : CallId) (r : Reply) (i : ℕ) → StandsFor s k → IsNext s k.past (entry d t (act.Take c) r) → c.0 ≡ i + 1 →
-    StandsFor s (record (with_entry k (entry d t (act.Take c) r)) { threads = own_changed d t (λ item. thread_record_after item (act.Take c) r) k.threads; services = each_record (λ nth item. record item { holders = portals_after (entry d t (act.Take c) r) nth item.holders }) k.services; calls = (changed_at i (λ item. record item { state = call.Running; carried = [] }) k.calls); waiting = filter (λ x. not (c.0 == x)) k.waiting; objects = each_record (object_record_after (entry d t (act.Take c) r) k.parts (changed_at i (λ item. record item { state = call.Running; carried = [] }) k.calls)) k.objects })
+pub stands_after_take : (s : System) (k : Kept) (d t : ℕ) (c : CallId) (r : Reply) → StandsFor s k → IsNext s k.past (entry d t (act.Take c) r) →
+    StandsFor s (after_take k (entry d t (act.Take c) r) c.0)
 unfolding is_birth makes_domain ended_by ended_by_act is_export exported_interface received_service received_parcel bound_by_act is_call asked_by queued_as is_take_of is_resume_of answered_by_act new_parts received_objects objects_in is_drop_of ended_object is_allocation makes_extent is_done new_threads is_choice
-stands_after_take s k d t c r i h n q =
+stands_after_take s k d t c r h n =
     record {
       admitted = (n, h.admitted);
       over = over_after s k (entry d t (act.Take c) r) h n;
@@ -215,19 +231,19 @@ stands_after_take s k d t c r i h n q =
       threads = ap (own_changed d t (λ item. thread_record_after item (act.Take c) r)) h.threads ∙ sym (threads_stepped s k.past (entry d t (act.Take c) r) n refl refl);
       services = services_stepped s k (entry d t (act.Take c) r) h n refl;
       names = keeps_names s k (entry d t (act.Take c) r) h n (λ x. refl);
-      calls = (ap (changed_at i (λ (item : CallRecord). record item { state = call.Running; carried = [] })) h.calls ∙ sym (set_changed i (λ (item : CallRecord). record item { state = call.Running; carried = [] }) (call_records k.past) (call_record k.past c.0) (call_record_there k.past c.0 i q (takes_queued s k.past d t c h.admitted n.thread).high)) ∙ sym (calls_after_take s k.past h.admitted d t c r i q (takes_queued s k.past d t c h.admitted n.thread)));
+      calls = (ap (changed_at (c.0 - 1) (λ (item : CallRecord). record item { state = call.Running; carried = [] })) h.calls ∙ sym (set_changed (c.0 - 1) (λ (item : CallRecord). record item { state = call.Running; carried = [] }) (call_records k.past) (call_record k.past c.0) (call_record_there k.past c.0 (c.0 - 1) (one_before c.0 (takes_queued s k.past d t c h.admitted n.thread).low) (takes_queued s k.past d t c h.admitted n.thread).high)) ∙ sym (calls_after_take s k.past h.admitted d t c r (c.0 - 1) (one_before c.0 (takes_queued s k.past d t c h.admitted n.thread).low) (takes_queued s k.past d t c h.admitted n.thread)));
       waiting = ap (filter (λ x. not (c.0 == x))) h.waiting ∙ sym (waiting_after_take s k.past h.admitted d t c r);
       parts = keeps_parts s k (entry d t (act.Take c) r) h n refl;
-      objects = objects_stepped s k (entry d t (act.Take c) r) h n (changed_at i (λ item. record item { state = call.Running; carried = [] }) k.calls) refl (ap (changed_at i (λ (item : CallRecord). record item { state = call.Running; carried = [] })) h.calls ∙ sym (set_changed i (λ (item : CallRecord). record item { state = call.Running; carried = [] }) (call_records k.past) (call_record k.past c.0) (call_record_there k.past c.0 i q (takes_queued s k.past d t c h.admitted n.thread).high)) ∙ sym (calls_after_take s k.past h.admitted d t c r i q (takes_queued s k.past d t c h.admitted n.thread)));
+      objects = objects_stepped s k (entry d t (act.Take c) r) h n (changed_at (c.0 - 1) (λ item. record item { state = call.Running; carried = [] }) k.calls) refl (ap (changed_at (c.0 - 1) (λ (item : CallRecord). record item { state = call.Running; carried = [] })) h.calls ∙ sym (set_changed (c.0 - 1) (λ (item : CallRecord). record item { state = call.Running; carried = [] }) (call_records k.past) (call_record k.past c.0) (call_record_there k.past c.0 (c.0 - 1) (one_before c.0 (takes_queued s k.past d t c h.admitted n.thread).low) (takes_queued s k.past d t c h.admitted n.thread).high)) ∙ sym (calls_after_take s k.past h.admitted d t c r (c.0 - 1) (one_before c.0 (takes_queued s k.past d t c h.admitted n.thread).low) (takes_queued s k.past d t c h.admitted n.thread)));
       extents = keeps_extents s k (entry d t (act.Take c) r) h n refl refl (λ x. and_false (is_done r)) (and_false (is_done r));
       taken = keeps_taken s k (entry d t (act.Take c) r) h n (record { birth = refl; ends = refl }) refl (λ x. and_false (is_done r));
     }
 
 -- a return, done or refused
-pub stands_after_return : (s : System) (k : Kept) (d t : ℕ) (c : CallId) (p : Parcel) (r : Reply) (i : ℕ) → StandsFor s k → IsNext s k.past (entry d t (act.Return c p) r) → c.0 ≡ i + 1 →
-    StandsFor s (record (with_entry k (entry d t (act.Return c p) r)) { threads = own_changed d t (λ item. thread_record_after item (act.Return c p) r) k.threads; calls = (changed_at i (λ item. record item { state = call.Answered (answer_kind (answer_by_reply r (Answer.Value p))); carried = answer_objects (Some (answer_by_reply r (Answer.Value p))); answered_at = Some (length k.past) }) k.calls); objects = each_record (object_record_after (entry d t (act.Return c p) r) k.parts (changed_at i (λ item. record item { state = call.Answered (answer_kind (answer_by_reply r (Answer.Value p))); carried = answer_objects (Some (answer_by_reply r (Answer.Value p))); answered_at = Some (length k.past) }) k.calls)) k.objects })
+pub stands_after_return : (s : System) (k : Kept) (d t : ℕ) (c : CallId) (p : Parcel) (r : Reply) → StandsFor s k → IsNext s k.past (entry d t (act.Return c p) r) →
+    StandsFor s (after_answer k (entry d t (act.Return c p) r) c.0 (answer_by_reply r (Answer.Value p)))
 unfolding is_birth makes_domain ended_by ended_by_act is_export exported_interface received_service received_parcel bound_by_act is_call asked_by queued_as is_take_of is_resume_of answered_by_act new_parts received_objects objects_in is_drop_of ended_object is_allocation makes_extent is_done new_threads is_choice reply_to
-stands_after_return s k d t c p r i h n q =
+stands_after_return s k d t c p r h n =
     record {
       admitted = (n, h.admitted);
       over = over_after s k (entry d t (act.Return c p) r) h n;
@@ -237,19 +253,19 @@ stands_after_return s k d t c p r i h n q =
       threads = ap (own_changed d t (λ item. thread_record_after item (act.Return c p) r)) h.threads ∙ sym (threads_stepped s k.past (entry d t (act.Return c p) r) n refl refl);
       services = keeps_services s k (entry d t (act.Return c p) r) h n (record { export = refl; service = refl; parcel = refl; bind = λ x. refl }) refl;
       names = keeps_names s k (entry d t (act.Return c p) r) h n (λ x. refl);
-      calls = (ap (changed_at i (λ (item : CallRecord). record item { state = call.Answered (answer_kind (answer_by_reply r (Answer.Value p))); carried = answer_objects (Some (answer_by_reply r (Answer.Value p))); answered_at = Some (length k.past) })) h.calls ∙ sym (set_changed i (λ (item : CallRecord). record item { state = call.Answered (answer_kind (answer_by_reply r (Answer.Value p))); carried = answer_objects (Some (answer_by_reply r (Answer.Value p))); answered_at = Some (length k.past) }) (call_records k.past) (call_record k.past c.0) (call_record_there k.past c.0 i q (returns_running s k.past d t c p h.admitted n.thread).high)) ∙ sym (calls_after_answer s k.past (entry d t (act.Return c p) r) c.0 i (answer_by_reply r (Answer.Value p)) h.admitted (return_answers k.past d t c p r) q (returns_running s k.past d t c p h.admitted n.thread) ∙ ap (λ (ys : List ℕ). set (call_records k.past) i (let item : CallRecord = record (call_record k.past c.0) { state = call.Answered (answer_kind (answer_by_reply r (Answer.Value p))); carried = ys; answered_at = Some (length k.past) } in item)) (sent_objects s k.past d c.0 p r (Answer.Value p) n.reply)));
+      calls = (ap (changed_at (c.0 - 1) (λ (item : CallRecord). record item { state = call.Answered (answer_kind (answer_by_reply r (Answer.Value p))); carried = answer_objects (Some (answer_by_reply r (Answer.Value p))); answered_at = Some (length k.past) })) h.calls ∙ sym (set_changed (c.0 - 1) (λ (item : CallRecord). record item { state = call.Answered (answer_kind (answer_by_reply r (Answer.Value p))); carried = answer_objects (Some (answer_by_reply r (Answer.Value p))); answered_at = Some (length k.past) }) (call_records k.past) (call_record k.past c.0) (call_record_there k.past c.0 (c.0 - 1) (one_before c.0 (returns_running s k.past d t c p h.admitted n.thread).low) (returns_running s k.past d t c p h.admitted n.thread).high)) ∙ sym (calls_after_answer s k.past (entry d t (act.Return c p) r) c.0 (c.0 - 1) (answer_by_reply r (Answer.Value p)) h.admitted (return_answers k.past d t c p r) (one_before c.0 (returns_running s k.past d t c p h.admitted n.thread).low) (returns_running s k.past d t c p h.admitted n.thread) ∙ ap (λ (ys : List ℕ). set (call_records k.past) (c.0 - 1) (let item : CallRecord = record (call_record k.past c.0) { state = call.Answered (answer_kind (answer_by_reply r (Answer.Value p))); carried = ys; answered_at = Some (length k.past) } in item)) (sent_objects s k.past d c.0 p r (Answer.Value p) n.reply)));
       waiting = h.waiting ∙ sym (waiting_after_answer k.past (entry d t (act.Return c p) r) c.0 (answer_by_reply r (Answer.Value p)) (return_answers k.past d t c p r) (running_not_queued k.past c.0 (returns_running s k.past d t c p h.admitted n.thread).state));
       parts = keeps_parts s k (entry d t (act.Return c p) r) h n refl;
-      objects = objects_stepped s k (entry d t (act.Return c p) r) h n (changed_at i (λ item. record item { state = call.Answered (answer_kind (answer_by_reply r (Answer.Value p))); carried = answer_objects (Some (answer_by_reply r (Answer.Value p))); answered_at = Some (length k.past) }) k.calls) refl (ap (changed_at i (λ (item : CallRecord). record item { state = call.Answered (answer_kind (answer_by_reply r (Answer.Value p))); carried = answer_objects (Some (answer_by_reply r (Answer.Value p))); answered_at = Some (length k.past) })) h.calls ∙ sym (set_changed i (λ (item : CallRecord). record item { state = call.Answered (answer_kind (answer_by_reply r (Answer.Value p))); carried = answer_objects (Some (answer_by_reply r (Answer.Value p))); answered_at = Some (length k.past) }) (call_records k.past) (call_record k.past c.0) (call_record_there k.past c.0 i q (returns_running s k.past d t c p h.admitted n.thread).high)) ∙ sym (calls_after_answer s k.past (entry d t (act.Return c p) r) c.0 i (answer_by_reply r (Answer.Value p)) h.admitted (return_answers k.past d t c p r) q (returns_running s k.past d t c p h.admitted n.thread) ∙ ap (λ (ys : List ℕ). set (call_records k.past) i (let item : CallRecord = record (call_record k.past c.0) { state = call.Answered (answer_kind (answer_by_reply r (Answer.Value p))); carried = ys; answered_at = Some (length k.past) } in item)) (sent_objects s k.past d c.0 p r (Answer.Value p) n.reply)));
+      objects = objects_stepped s k (entry d t (act.Return c p) r) h n (changed_at (c.0 - 1) (λ item. record item { state = call.Answered (answer_kind (answer_by_reply r (Answer.Value p))); carried = answer_objects (Some (answer_by_reply r (Answer.Value p))); answered_at = Some (length k.past) }) k.calls) refl (ap (changed_at (c.0 - 1) (λ (item : CallRecord). record item { state = call.Answered (answer_kind (answer_by_reply r (Answer.Value p))); carried = answer_objects (Some (answer_by_reply r (Answer.Value p))); answered_at = Some (length k.past) })) h.calls ∙ sym (set_changed (c.0 - 1) (λ (item : CallRecord). record item { state = call.Answered (answer_kind (answer_by_reply r (Answer.Value p))); carried = answer_objects (Some (answer_by_reply r (Answer.Value p))); answered_at = Some (length k.past) }) (call_records k.past) (call_record k.past c.0) (call_record_there k.past c.0 (c.0 - 1) (one_before c.0 (returns_running s k.past d t c p h.admitted n.thread).low) (returns_running s k.past d t c p h.admitted n.thread).high)) ∙ sym (calls_after_answer s k.past (entry d t (act.Return c p) r) c.0 (c.0 - 1) (answer_by_reply r (Answer.Value p)) h.admitted (return_answers k.past d t c p r) (one_before c.0 (returns_running s k.past d t c p h.admitted n.thread).low) (returns_running s k.past d t c p h.admitted n.thread) ∙ ap (λ (ys : List ℕ). set (call_records k.past) (c.0 - 1) (let item : CallRecord = record (call_record k.past c.0) { state = call.Answered (answer_kind (answer_by_reply r (Answer.Value p))); carried = ys; answered_at = Some (length k.past) } in item)) (sent_objects s k.past d c.0 p r (Answer.Value p) n.reply)));
       extents = keeps_extents s k (entry d t (act.Return c p) r) h n refl refl (λ x. and_false (is_done r)) (and_false (is_done r));
       taken = keeps_taken s k (entry d t (act.Return c p) r) h n (record { birth = refl; ends = refl }) refl (λ x. and_false (is_done r));
     }
 
 -- a throw, done or refused
-pub stands_after_throw : (s : System) (k : Kept) (d t : ℕ) (c : CallId) (p : Parcel) (r : Reply) (i : ℕ) → StandsFor s k → IsNext s k.past (entry d t (act.Throw c p) r) → c.0 ≡ i + 1 →
-    StandsFor s (record (with_entry k (entry d t (act.Throw c p) r)) { threads = own_changed d t (λ item. thread_record_after item (act.Throw c p) r) k.threads; calls = (changed_at i (λ item. record item { state = call.Answered (answer_kind (answer_by_reply r (thrown p))); carried = answer_objects (Some (answer_by_reply r (thrown p))); answered_at = Some (length k.past) }) k.calls); objects = each_record (object_record_after (entry d t (act.Throw c p) r) k.parts (changed_at i (λ item. record item { state = call.Answered (answer_kind (answer_by_reply r (thrown p))); carried = answer_objects (Some (answer_by_reply r (thrown p))); answered_at = Some (length k.past) }) k.calls)) k.objects })
+pub stands_after_throw : (s : System) (k : Kept) (d t : ℕ) (c : CallId) (p : Parcel) (r : Reply) → StandsFor s k → IsNext s k.past (entry d t (act.Throw c p) r) →
+    StandsFor s (after_answer k (entry d t (act.Throw c p) r) c.0 (answer_by_reply r (thrown p)))
 unfolding is_birth makes_domain ended_by ended_by_act is_export exported_interface received_service received_parcel bound_by_act is_call asked_by queued_as is_take_of is_resume_of answered_by_act new_parts received_objects objects_in is_drop_of ended_object is_allocation makes_extent is_done new_threads is_choice reply_to
-stands_after_throw s k d t c p r i h n q =
+stands_after_throw s k d t c p r h n =
     record {
       admitted = (n, h.admitted);
       over = over_after s k (entry d t (act.Throw c p) r) h n;
@@ -259,19 +275,19 @@ stands_after_throw s k d t c p r i h n q =
       threads = ap (own_changed d t (λ item. thread_record_after item (act.Throw c p) r)) h.threads ∙ sym (threads_stepped s k.past (entry d t (act.Throw c p) r) n refl refl);
       services = keeps_services s k (entry d t (act.Throw c p) r) h n (record { export = refl; service = refl; parcel = refl; bind = λ x. refl }) refl;
       names = keeps_names s k (entry d t (act.Throw c p) r) h n (λ x. refl);
-      calls = (ap (changed_at i (λ (item : CallRecord). record item { state = call.Answered (answer_kind (answer_by_reply r (thrown p))); carried = answer_objects (Some (answer_by_reply r (thrown p))); answered_at = Some (length k.past) })) h.calls ∙ sym (set_changed i (λ (item : CallRecord). record item { state = call.Answered (answer_kind (answer_by_reply r (thrown p))); carried = answer_objects (Some (answer_by_reply r (thrown p))); answered_at = Some (length k.past) }) (call_records k.past) (call_record k.past c.0) (call_record_there k.past c.0 i q (throws_running s k.past d t c p h.admitted n.thread).high)) ∙ sym (calls_after_answer s k.past (entry d t (act.Throw c p) r) c.0 i (answer_by_reply r (thrown p)) h.admitted (throw_answers k.past d t c p r) q (throws_running s k.past d t c p h.admitted n.thread) ∙ ap (λ (ys : List ℕ). set (call_records k.past) i (let item : CallRecord = record (call_record k.past c.0) { state = call.Answered (answer_kind (answer_by_reply r (thrown p))); carried = ys; answered_at = Some (length k.past) } in item)) (sent_objects s k.past d c.0 p r (thrown p) n.reply)));
+      calls = (ap (changed_at (c.0 - 1) (λ (item : CallRecord). record item { state = call.Answered (answer_kind (answer_by_reply r (thrown p))); carried = answer_objects (Some (answer_by_reply r (thrown p))); answered_at = Some (length k.past) })) h.calls ∙ sym (set_changed (c.0 - 1) (λ (item : CallRecord). record item { state = call.Answered (answer_kind (answer_by_reply r (thrown p))); carried = answer_objects (Some (answer_by_reply r (thrown p))); answered_at = Some (length k.past) }) (call_records k.past) (call_record k.past c.0) (call_record_there k.past c.0 (c.0 - 1) (one_before c.0 (throws_running s k.past d t c p h.admitted n.thread).low) (throws_running s k.past d t c p h.admitted n.thread).high)) ∙ sym (calls_after_answer s k.past (entry d t (act.Throw c p) r) c.0 (c.0 - 1) (answer_by_reply r (thrown p)) h.admitted (throw_answers k.past d t c p r) (one_before c.0 (throws_running s k.past d t c p h.admitted n.thread).low) (throws_running s k.past d t c p h.admitted n.thread) ∙ ap (λ (ys : List ℕ). set (call_records k.past) (c.0 - 1) (let item : CallRecord = record (call_record k.past c.0) { state = call.Answered (answer_kind (answer_by_reply r (thrown p))); carried = ys; answered_at = Some (length k.past) } in item)) (sent_objects s k.past d c.0 p r (thrown p) n.reply)));
       waiting = h.waiting ∙ sym (waiting_after_answer k.past (entry d t (act.Throw c p) r) c.0 (answer_by_reply r (thrown p)) (throw_answers k.past d t c p r) (running_not_queued k.past c.0 (throws_running s k.past d t c p h.admitted n.thread).state));
       parts = keeps_parts s k (entry d t (act.Throw c p) r) h n refl;
-      objects = objects_stepped s k (entry d t (act.Throw c p) r) h n (changed_at i (λ item. record item { state = call.Answered (answer_kind (answer_by_reply r (thrown p))); carried = answer_objects (Some (answer_by_reply r (thrown p))); answered_at = Some (length k.past) }) k.calls) refl (ap (changed_at i (λ (item : CallRecord). record item { state = call.Answered (answer_kind (answer_by_reply r (thrown p))); carried = answer_objects (Some (answer_by_reply r (thrown p))); answered_at = Some (length k.past) })) h.calls ∙ sym (set_changed i (λ (item : CallRecord). record item { state = call.Answered (answer_kind (answer_by_reply r (thrown p))); carried = answer_objects (Some (answer_by_reply r (thrown p))); answered_at = Some (length k.past) }) (call_records k.past) (call_record k.past c.0) (call_record_there k.past c.0 i q (throws_running s k.past d t c p h.admitted n.thread).high)) ∙ sym (calls_after_answer s k.past (entry d t (act.Throw c p) r) c.0 i (answer_by_reply r (thrown p)) h.admitted (throw_answers k.past d t c p r) q (throws_running s k.past d t c p h.admitted n.thread) ∙ ap (λ (ys : List ℕ). set (call_records k.past) i (let item : CallRecord = record (call_record k.past c.0) { state = call.Answered (answer_kind (answer_by_reply r (thrown p))); carried = ys; answered_at = Some (length k.past) } in item)) (sent_objects s k.past d c.0 p r (thrown p) n.reply)));
+      objects = objects_stepped s k (entry d t (act.Throw c p) r) h n (changed_at (c.0 - 1) (λ item. record item { state = call.Answered (answer_kind (answer_by_reply r (thrown p))); carried = answer_objects (Some (answer_by_reply r (thrown p))); answered_at = Some (length k.past) }) k.calls) refl (ap (changed_at (c.0 - 1) (λ (item : CallRecord). record item { state = call.Answered (answer_kind (answer_by_reply r (thrown p))); carried = answer_objects (Some (answer_by_reply r (thrown p))); answered_at = Some (length k.past) })) h.calls ∙ sym (set_changed (c.0 - 1) (λ (item : CallRecord). record item { state = call.Answered (answer_kind (answer_by_reply r (thrown p))); carried = answer_objects (Some (answer_by_reply r (thrown p))); answered_at = Some (length k.past) }) (call_records k.past) (call_record k.past c.0) (call_record_there k.past c.0 (c.0 - 1) (one_before c.0 (throws_running s k.past d t c p h.admitted n.thread).low) (throws_running s k.past d t c p h.admitted n.thread).high)) ∙ sym (calls_after_answer s k.past (entry d t (act.Throw c p) r) c.0 (c.0 - 1) (answer_by_reply r (thrown p)) h.admitted (throw_answers k.past d t c p r) (one_before c.0 (throws_running s k.past d t c p h.admitted n.thread).low) (throws_running s k.past d t c p h.admitted n.thread) ∙ ap (λ (ys : List ℕ). set (call_records k.past) (c.0 - 1) (let item : CallRecord = record (call_record k.past c.0) { state = call.Answered (answer_kind (answer_by_reply r (thrown p))); carried = ys; answered_at = Some (length k.past) } in item)) (sent_objects s k.past d c.0 p r (thrown p) n.reply)));
       extents = keeps_extents s k (entry d t (act.Throw c p) r) h n refl refl (λ x. and_false (is_done r)) (and_false (is_done r));
       taken = keeps_taken s k (entry d t (act.Throw c p) r) h n (record { birth = refl; ends = refl }) refl (λ x. and_false (is_done r));
     }
 
 -- a resume after an answered call
-pub stands_after_resume : (s : System) (k : Kept) (d t : ℕ) (c : CallId) (r : Reply) (i : ℕ) (j : AnswerKind) → StandsFor s k → IsNext s k.past (entry d t (act.Resume c) r) → c.0 ≡ i + 1 → StandsAt k.past c.0 (call.Answered j) →
-    StandsFor s (record (with_entry k (entry d t (act.Resume c) r)) { threads = own_changed d t (λ item. thread_record_after item (act.Resume c) r) k.threads; services = each_record (λ nth item. record item { holders = portals_after (entry d t (act.Resume c) r) nth item.holders }) k.services; calls = (changed_at i (λ item. record item { state = call.Resumed; carried = [] }) k.calls); objects = each_record (object_record_after (entry d t (act.Resume c) r) k.parts (changed_at i (λ item. record item { state = call.Resumed; carried = [] }) k.calls)) k.objects })
+pub stands_after_resume : (s : System) (k : Kept) (d t : ℕ) (c : CallId) (r : Reply) → StandsFor s k → IsNext s k.past (entry d t (act.Resume c) r) →
+    StandsFor s (after_resume k (entry d t (act.Resume c) r) c.0)
 unfolding is_birth makes_domain ended_by ended_by_act is_export exported_interface received_service received_parcel bound_by_act is_call asked_by queued_as is_take_of is_resume_of answered_by_act new_parts received_objects objects_in is_drop_of ended_object is_allocation makes_extent is_done new_threads is_choice
-stands_after_resume s k d t c r i j h n q st =
+stands_after_resume s k d t c r h n =
     record {
       admitted = (n, h.admitted);
       over = over_after s k (entry d t (act.Resume c) r) h n;
@@ -281,10 +297,10 @@ stands_after_resume s k d t c r i j h n q st =
       threads = ap (own_changed d t (λ item. thread_record_after item (act.Resume c) r)) h.threads ∙ sym (threads_stepped s k.past (entry d t (act.Resume c) r) n refl refl);
       services = services_stepped s k (entry d t (act.Resume c) r) h n refl;
       names = keeps_names s k (entry d t (act.Resume c) r) h n (λ x. refl);
-      calls = (ap (changed_at i (λ (item : CallRecord). record item { state = call.Resumed; carried = [] })) h.calls ∙ sym (set_changed i (λ (item : CallRecord). record item { state = call.Resumed; carried = [] }) (call_records k.past) (call_record k.past c.0) (call_record_there k.past c.0 i q st.high)) ∙ sym (calls_after_resume s k.past d t c r i j h.admitted q st));
+      calls = (ap (changed_at (c.0 - 1) (λ (item : CallRecord). record item { state = call.Resumed; carried = [] })) h.calls ∙ sym (set_changed (c.0 - 1) (λ (item : CallRecord). record item { state = call.Resumed; carried = [] }) (call_records k.past) (call_record k.past c.0) (call_record_there k.past c.0 (c.0 - 1) (one_before c.0 (resumes_stand s k.past d t c n.thread).1.low) (resumes_stand s k.past d t c n.thread).1.high)) ∙ sym (calls_after_resume s k.past d t c r (c.0 - 1) (resumes_stand s k.past d t c n.thread).0 h.admitted (one_before c.0 (resumes_stand s k.past d t c n.thread).1.low) (resumes_stand s k.past d t c n.thread).1));
       waiting = h.waiting ∙ sym (waiting_after_resume k.past d t c r);
       parts = keeps_parts s k (entry d t (act.Resume c) r) h n refl;
-      objects = objects_stepped s k (entry d t (act.Resume c) r) h n (changed_at i (λ item. record item { state = call.Resumed; carried = [] }) k.calls) refl (ap (changed_at i (λ (item : CallRecord). record item { state = call.Resumed; carried = [] })) h.calls ∙ sym (set_changed i (λ (item : CallRecord). record item { state = call.Resumed; carried = [] }) (call_records k.past) (call_record k.past c.0) (call_record_there k.past c.0 i q st.high)) ∙ sym (calls_after_resume s k.past d t c r i j h.admitted q st));
+      objects = objects_stepped s k (entry d t (act.Resume c) r) h n (changed_at (c.0 - 1) (λ item. record item { state = call.Resumed; carried = [] }) k.calls) refl (ap (changed_at (c.0 - 1) (λ (item : CallRecord). record item { state = call.Resumed; carried = [] })) h.calls ∙ sym (set_changed (c.0 - 1) (λ (item : CallRecord). record item { state = call.Resumed; carried = [] }) (call_records k.past) (call_record k.past c.0) (call_record_there k.past c.0 (c.0 - 1) (one_before c.0 (resumes_stand s k.past d t c n.thread).1.low) (resumes_stand s k.past d t c n.thread).1.high)) ∙ sym (calls_after_resume s k.past d t c r (c.0 - 1) (resumes_stand s k.past d t c n.thread).0 h.admitted (one_before c.0 (resumes_stand s k.past d t c n.thread).1.low) (resumes_stand s k.past d t c n.thread).1));
       extents = keeps_extents s k (entry d t (act.Resume c) r) h n refl refl (λ x. and_false (is_done r)) (and_false (is_done r));
       taken = keeps_taken s k (entry d t (act.Resume c) r) h n (record { birth = refl; ends = refl }) refl (λ x. and_false (is_done r));
     }

@@ -1,20 +1,27 @@
 -- All that is kept, at the start and with one more entry.
-use Rattle.std.specs.Prelude.{ℕ, ◌+◌, ◌-◌, Bool, false, not, ◌&&◌, ◌||◌, List, [], ◌∷◌, length, map, filter, replicate, Some, None, is_some, ◌==◌, nat_lt, if◌then◌else◌}
+use Rattle.std.specs.Prelude.{ℕ, ◌+◌, ◌-◌, Bool, false, not, ◌&&◌, ◌||◌, List, [], ◌∷◌, ◌++◌, length, map, filter, replicate, Some, None, is_some, ◌==◌, nat_lt, if◌then◌else◌}
 use Rattle.std.specs.List.{list_any, cons_option}
 use Rattle.std.specs.Option.{option_and_then, option_map, unwrap_or}
 use Rattle.jx_base.specs.declared.act.Entry.{Entry}
+use Rattle.jx_base.specs.declared.ids.ServiceId.{ServiceId}
+use Rattle.jx_base.specs.declared.states.CallState.TheVariants as call
+use Rattle.jx_base.specs.declared.value.Parcel.{Parcel}
 use Rattle.jx_base.specs.declared.act.Reason.{Reason}
 use Rattle.jx_base.specs.declared.program.System.{System}
 use Rattle.jx_base.specs.declared.states.DomainState.{DomainState}
 use Rattle.jx_base.specs.Basics.{up_to, passes, numbered, is_number}
+use Rattle.program_model.specs.ParcelParts.{parcel_objects}
 use Rattle.program_model.specs.Limits.{granule_limit}
 use Rattle.jx_model.specs.Journal.{entry_words}
 use Rattle.jx_model.specs.Domains.{named_template, reply_granule}
 use Rattle.jx_model.specs.MemoryObjects.{Part, allocated_bytes}
 use Rattle.jx_model.specs.Granules.{Run, heap_granules, extent_granules, lies_in_one}
+use Rattle.jx_model.specs.Calls.{Answer, answer_kind}
+use Rattle.jx_model.specs.Holding.{answer_objects}
 use Rattle.jx_model.specs.Permits.{is_ending, is_create_entry}
-use Rattle.jx_model.specs.Tables.{Kept, ServiceRecord, CallRecord, ObjectRecord, ExtentRecord}
+use Rattle.jx_model.specs.Tables.{Kept, ThreadRecord, ServiceRecord, CallRecord, ObjectRecord, ExtentRecord}
 use Rattle.table_threads.specs.Changes.{is_set, each_from, each_record, changed_at}
+use Rattle.table_threads.specs.ThreadChanges.{thread_record_after, own_changed}
 use Rattle.table_threads.specs.CallChanges.{ended_call}
 use Rattle.table_objects.specs.HolderChanges.{portals_after}
 use Rattle.table_objects.specs.ObjectChanges.{object_record_after}
@@ -66,6 +73,82 @@ born_run s e = (reply_granule e.reply, unwrap_or (option_map (heap_granules s) (
 abbrev pub allocated_run : Entry → Run
 allocated_run e = (reply_granule e.reply, extent_granules (allocated_bytes e.act))
 
+-- ---- what acts change
+
+-- the threads, with the record of the entry's own changed
+abbrev pub moved_threads : Kept → Entry → List (List ThreadRecord)
+moved_threads k e = own_changed e.domain.0 e.thread.0 (λ item. thread_record_after item e.act e.reply) k.threads
+
+-- the services, with who holds them after the entry
+abbrev pub handed_services : Kept → Entry → List ServiceRecord
+handed_services k e = each_record (λ j item. record item { holders = portals_after e j item.holders }) k.services
+
+-- the objects after the entry, with those calls
+abbrev pub handed_objects : Kept → Entry → List CallRecord → List ObjectRecord
+handed_objects k e calls = each_record (object_record_after e k.parts calls) k.objects
+
+-- the record of a call that the entry queues
+abbrev pub queued_call : Kept → Entry → ServiceId → Parcel → CallRecord
+queued_call k e service parcel =
+    record {
+      caller = e.domain.0;
+      thread = e.thread.0;
+      service = service.0;
+      state = call.Queued;
+      carried = parcel_objects parcel;
+      queued_at = length k.past;
+      answered_at = None;
+    }
+
+-- after a call that is queued
+abbrev pub after_call : Kept → Entry → ServiceId → Parcel → Kept
+after_call k e service parcel =
+    let calls : List CallRecord = k.calls ++ queued_call k e service parcel ∷ [] in
+    record (with_entry k e) {
+      threads = moved_threads k e;
+      calls = calls;
+      waiting = k.waiting ++ (length k.calls + 1) ∷ [];
+      objects = handed_objects k e calls;
+    }
+
+-- after a take of the call
+abbrev pub after_take : Kept → Entry → ℕ → Kept
+after_take k e c =
+    let calls : List CallRecord = changed_at (c - 1) (λ item. record item { state = call.Running; carried = [] }) k.calls in
+    record (with_entry k e) {
+      threads = moved_threads k e;
+      services = handed_services k e;
+      calls = calls;
+      waiting = filter (λ x. not (c == x)) k.waiting;
+      objects = handed_objects k e calls;
+    }
+
+-- the record of a call with that answer, given at that place
+abbrev pub answered_call : Answer → ℕ → CallRecord → CallRecord
+answered_call x at item =
+    record item {
+      state = call.Answered (answer_kind x);
+      carried = answer_objects (Some x);
+      answered_at = Some at;
+    }
+
+-- after a return or throw that gives the call that answer
+abbrev pub after_answer : Kept → Entry → ℕ → Answer → Kept
+after_answer k e c x =
+    let calls : List CallRecord = changed_at (c - 1) (answered_call x (length k.past)) k.calls in
+    record (with_entry k e) { threads = moved_threads k e; calls = calls; objects = handed_objects k e calls }
+
+-- after a resume behind the call
+abbrev pub after_resume : Kept → Entry → ℕ → Kept
+after_resume k e c =
+    let calls : List CallRecord = changed_at (c - 1) (λ item. record item { state = call.Resumed; carried = [] }) k.calls in
+    record (with_entry k e) {
+      threads = moved_threads k e;
+      services = handed_services k e;
+      calls = calls;
+      objects = handed_objects k e calls;
+    }
+
 -- ---- what ends
 
 -- whether domain d owns the service
@@ -105,7 +188,7 @@ without_runs runs taken = each_from (λ g used. used && not (lies_in_one runs g)
 -- after a release
 abbrev pub after_release : Kept → Entry → Kept
 after_release k e =
-    let objects : List ObjectRecord = each_record (object_record_after e k.parts k.calls) k.objects in
+    let objects : List ObjectRecord = handed_objects k e k.calls in
     record (with_entry k e) {
       objects = objects;
       extents = kept_extents k.parts objects k.extents;
@@ -116,10 +199,10 @@ after_release k e =
 abbrev pub after_end : System → Kept → Entry → ℕ → Reason → Kept
 after_end s k e d why =
     let calls : List CallRecord = map (ended_call (owns k.services d) d (length k.past)) k.calls in
-    let objects : List ObjectRecord = each_record (object_record_after e k.parts calls) k.objects in
+    let objects : List ObjectRecord = handed_objects k e calls in
     record (with_entry k e) {
       domains = changed_at (d - 1) (λ item. record item { ended = Some why }) k.domains;
-      services = each_record (λ j item. record item { holders = portals_after e j item.holders }) k.services;
+      services = handed_services k e;
       calls = calls;
       waiting = filter (λ c. not (is_call_to k.services k.calls d c)) k.waiting;
       objects = objects;
