@@ -43,7 +43,7 @@ unfoldable pub number_at : Past → ℕ → ℕ → ℕ → ℕ
 number_at past x i zero = 0
 number_at past x i (suc k) = byte_at past x i + 256 * number_at past x (i + 1) k
 
--- what a computed row opens
+-- what a computed case opens
 unfoldable pub opened_bytes : Unit {0}
 unfolding covers offset_in object_byte byte_after byte_at number_at
 opened_bytes = tt

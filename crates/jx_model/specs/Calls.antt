@@ -209,7 +209,7 @@ call_stage resumed answer taken =
 unfoldable pub call_state : Past → ℕ → CallState
 call_state past c = call_stage (is_resumed past c) (answer_of past c) (is_taken past c)
 
--- what a computed row opens
+-- what a computed case opens
 unfoldable pub opened_calls : Unit {0}
 unfolding asked_by queued_as is_call call_entry asked_of service_of_call server_of caller_of has_live_caller is_take_of is_answer_to is_resume_of first_since marked is_taken is_resumed answer_kind thrown refused_answer answer_by_reply answered_by_act ends_domain ends_server answered_by answer_of is_unanswered is_queued is_being_served waiting_calls queued_calls queue_head is_resumable call_stage call_state
 opened_calls = tt

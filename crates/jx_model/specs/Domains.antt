@@ -97,7 +97,7 @@ is_live past d = is_made past d && is_none (end_reason past d)
 abbrev pub IsLive : Past → ℕ → Type 0
 IsLive past d = IsTrue (is_live past d)
 
--- what a computed row opens
+-- what a computed case opens
 unfoldable pub opened_domains : Unit {0}
 unfolding makes_domain is_birth is_made birth_of template_named named_template template_of creator_of reply_granule heap_place_of ended_by_act ended_by reason_for end_reason is_live
 opened_domains = tt

@@ -85,7 +85,7 @@ least_free used n (suc more) g = elim (is_free_run used n g) [ true ↦ Some g |
 unfoldable pub first_fit : System → Past → ℕ → Option ℕ
 first_fit s past n = least_free (lies_in_one (used_runs s past)) n (granule_limit s + 1 - n) 0
 
--- what a computed row opens
+-- what a computed case opens
 unfoldable pub opened_granules : Unit {0}
 unfolding heap_of_template heap_granules extent_granules heap_run extent_run run_if heap_runs extent_runs used_runs lies_in lies_in_one is_used_granule run_granules used_granules is_free_run least_free first_fit
 opened_granules = tt

@@ -109,7 +109,7 @@ is_extent_in_use past x =
 abbrev pub IsInUse : Past → ℕ → Type 0
 IsInUse past x = IsTrue (is_extent_in_use past x)
 
--- what a computed row opens
+-- what a computed case opens
 unfoldable pub opened_holding : Unit {0}
 unfolding objects_in received_objects is_drop_of keeps_after keeps_object holds_object holders answer_objects asked_objects carried_by carried riders riding_count hold_count is_of_extent is_extent_in_use
 opened_holding = tt

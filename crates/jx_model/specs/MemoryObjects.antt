@@ -114,7 +114,7 @@ is_valid (e ∷ past) m =
 abbrev pub IsValidObject : Past → ℕ → Type 0
 IsValidObject past m = IsTrue (is_valid past m)
 
--- what a computed row opens
+-- what a computed case opens
 unfoldable pub opened_memory_objects : Unit {0}
 unfolding makes_extent is_allocation allocation_of allocated_bytes part_within sides_at made_of new_parts objects_of objects_made object_part object_parent lineage_within lineage_of ended_object ends_one_of is_valid
 opened_memory_objects = tt

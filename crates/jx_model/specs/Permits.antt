@@ -201,7 +201,7 @@ acting_thread s past d a =
 abbrev pub IsPermitted : System → Past → ℕ → Act → Type 0
 IsPermitted s past d a = IsSome (acting_thread s past d a)
 
--- what a computed row opens
+-- what a computed case opens
 unfoldable pub opened_permits : Unit {0}
 unfolding is_zero_act is_choice is_ending is_halt is_create is_over is_boot_template boot_templates is_create_entry next_boot is_idle_for is_waiting_for is_yielded is_head idle_thread taking_thread resuming_thread going_thread choice_thread resume_in resume_at take_at go_at first_of_choices first_choice can_act first_alive is_serving may_perform domain_thread zero_may zero_may_now domains_wait acting_thread
 opened_permits = tt

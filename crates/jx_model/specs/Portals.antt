@@ -99,7 +99,7 @@ last_bound (e ∷ past) name = elim (bound_by_act name e.act e.reply) [ Some s �
 unfoldable pub bound_service : Past → List ℕ → Option ℕ
 bound_service past name = option_and_then (λ s. if has_live_owner past s then Some s else None) (last_bound past name)
 
--- what a computed row opens
+-- what a computed case opens
 unfoldable pub opened_portals : Unit {0}
 unfolding exported_interface is_export is_exported export_of owner_of interface_of has_live_owner received_parcel received_service gives_portal keeps_portal holds_portal bound_by_act last_bound bound_service
 opened_portals = tt

@@ -229,7 +229,7 @@ reply_to s past d (act.Spawn name) = spawned s past name
 reply_to s past d (act.Kill k) = killed past d (not_below_zero k)
 reply_to s past d _ = reply.Done
 
--- what a computed row opens
+-- what a computed case opens
 unfoldable pub opened_replies : Unit {0}
 unfolding ◌refuses◌else◌ given_or is_positive_up_to is_within is_within_object new_domain spawned killed new_service bound portal_reply looked_up holds_all fits_domain_of has_service_method called job_of sent_back answer_reply or_done with_object done_within number_reply number_in copied new_object lacks_objects allocated one_object derived divided reply_to
 opened_replies = tt

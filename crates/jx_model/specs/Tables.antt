@@ -235,7 +235,7 @@ pub record StandsFor (s : System) (k : Kept) : Type 0 where
   pub extents : k.extents ≡ extent_records k.past
   pub taken : k.taken ≡ granule_flags s k.past
 
--- what a computed record opens
+-- what a computed case opens
 unfoldable pub opened_tables : Unit {0}
 unfolding domain_record domain_records state_or_over thread_record thread_records service_record service_records named_service calling_thread place_of queued_at answered_at call_record call_records object_record object_records extent_size extent_bytes extent_record extent_records granule_flags
 opened_tables = tt

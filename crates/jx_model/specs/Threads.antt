@@ -95,7 +95,7 @@ thread_where past d p = find (λ t. passes p (thread_state past d t)) (threads_o
 unfoldable pub running_thread : Past → ℕ → Option ℕ
 running_thread past d = if is_live past d then thread_where past d is_running_state else None
 
--- what a computed row opens
+-- what a computed case opens
 unfoldable pub opened_threads : Unit {0}
 unfolding new_threads new_threads_of service_threads threads_of is_of_thread served_after served_call state_after state_by_last serving_state last_of_thread thread_state is_running_state thread_where running_thread
 opened_threads = tt

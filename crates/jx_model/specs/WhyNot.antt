@@ -76,7 +76,7 @@ pub record CanBeAsked (s : System) (past : Past) (d : ℕ) (a : Act) : Type 0 wh
 abbrev pub IsTold : System → Past → ℕ → Act → Type 0
 IsTold s past d a = is_some (acting_thread s past d a) ≡ is_none (why_not s past d a)
 
--- what a computed row opens
+-- what a computed case opens
 unfoldable pub opened_why_not : Unit {0}
 unfolding why_if head_of_its_queue why_not_take why_not_asleep why_not_running why_not_domain boot_or why_not_zero why_not
 opened_why_not = tt

@@ -12,16 +12,16 @@ use Rattle.jx_base.specs.declared.ids.ServiceId.{ServiceId}
 use Rattle.jx_base.specs.declared.value.Parcel.{Parcel}
 use Rattle.jx_base.specs.declared.states.CallState.TheVariants as call
 use Rattle.jx_base.specs.declared.program.System.{System}
-use Rattle.jx_base.specs.Basics.{passes, is_number, not_below_zero, contains_number, numbered, low_byte}
+use Rattle.jx_base.specs.Basics.{passes, is_number, not_below_zero, numbered, low_byte}
 use Rattle.program_model.specs.ParcelParts.{parcel_objects}
 use Rattle.jx_base.specs.Histories.{Past, is_done, is_own}
 use Rattle.jx_model.specs.Domains.{is_birth, makes_domain, ended_by, ended_by_act}
 use Rattle.jx_model.specs.Threads.{new_threads}
 use Rattle.jx_model.specs.Portals.{is_export, exported_interface, services_made, received_service, received_parcel, gives_portal, bound_by_act}
 use Rattle.jx_model.specs.Calls.{Answer, is_call, asked_by, queued_as, is_take_of, is_resume_of, answered_by_act, answer_by_reply, answer_kind, thrown}
-use Rattle.jx_model.specs.MemoryObjects.{Part, made_of, part_within, sides_at, object_part, is_valid, ends_one_of, lineage_of, objects_of, new_parts, extents_made, is_allocation, makes_extent, ended_object, allocated_bytes}
+use Rattle.jx_model.specs.MemoryObjects.{Part, made_of, part_within, sides_at, object_part, is_valid, ends_one_of, objects_of, new_parts, extents_made, is_allocation, makes_extent, ended_object, allocated_bytes}
 use Rattle.jx_model.specs.Holding.{holds_object, received_objects, objects_in, is_drop_of, answer_objects, is_extent_in_use}
-use Rattle.jx_model.specs.Granules.{Run, lies_in}
+use Rattle.jx_model.specs.Granules.{Run}
 use Rattle.jx_model.specs.Permits.{is_choice, is_halt, zero_may}
 use Rattle.jx_model.specs.Replies.{reply_to, bound, done_within, copied, new_service, ◌refuses◌else◌}
 use Rattle.jx_model.specs.Bytes.{byte_at}
@@ -30,9 +30,9 @@ use Rattle.jx_model.specs.Tables.{Kept, StandsFor, ThreadRecord, ServiceRecord, 
 use Rattle.jx_model.specs.Legal.{IsNext}
 use Rattle.jx_base.proofs.BasicLaws.{ap2, and_false, and_true}
 use Rattle.table_threads.proofs.Records.{is_that, not_that, or_false, set_changed}
-use Rattle.table_threads.specs.Changes.{each_from, each_record, changed_at}
+use Rattle.table_threads.specs.Changes.{changed_at}
 use Rattle.table_threads.proofs.Actors.{acts_live}
-use Rattle.table_threads.specs.ThreadChanges.{born, thread_record_after, first_records, own_changed, own_added}
+use Rattle.table_threads.specs.ThreadChanges.{thread_record_after, first_records, own_changed, own_added}
 use Rattle.table_threads.proofs.CallStages.{takes_queued, returns_running, throws_running}
 use Rattle.table_threads.proofs.ThreadActs.{threads_left, threads_stepped, threads_born, threads_exported}
 use Rattle.table_threads.proofs.CallRecords.{calls_counted, call_record_there}
@@ -49,9 +49,8 @@ use Rattle.table_objects.proofs.ServiceRecords.{services_more, services_kept, po
 use Rattle.table_objects.specs.ObjectChanges.{new_service_record, new_object_record}
 use Rattle.table_threads.proofs.Binds.{binds_after_bind}
 use Rattle.table_extents.proofs.ExtentRecords.{extents_more, extents_written, kept_bytes, extent_record_there}
-use Rattle.table_steps.specs.Steps.{with_entry, born_run, allocated_run, after_call, after_take, after_answer, after_resume}
+use Rattle.table_steps.specs.Steps.{allocated_run, after_call, after_take, after_answer, after_resume, after_birth, after_export, after_bind, after_lookup, after_alloc, after_sub, after_revoke, after_write}
 use Rattle.table_steps.proofs.Unchanged.{over_after, words_after, creates_after, no_drop, keeps_domains, keeps_services, keeps_names, keeps_calls, keeps_waiting, keeps_parts, keeps_objects, keeps_extents, keeps_taken}
-use Rattle.table_objects.specs.HolderChanges.{portals_after}
 use Rattle.table_steps.proofs.StepParts.{domains_born, services_stepped, objects_stepped, objects_beside, each_same, parts_added, extents_counted, taken_born, allocated_run_is, taken_allocated}
 use Rattle.std.specs.Option.{option_map}
 use Rattle.std.specs.Prelude.{if◌then◌else◌, nat_le, ◌-◌}
@@ -84,7 +83,7 @@ exported_number s past d iface j v c q = by (nat_le (service_limit s) (services_
 
 -- a create that makes a domain
 pub stands_after_create : (s : System) (k : Kept) (d t : ℕ) (x : ℕ) (j : DomainId) (g : ℕ) → StandsFor s k → IsNext s k.past (entry d t (act.Create x) (reply.Domain j g)) →
-    StandsFor s (record (with_entry k (entry d t (act.Create x) (reply.Domain j g))) { domains = k.domains ++ born s (entry d t (act.Create x) (reply.Domain j g)) ∷ []; threads = k.threads ++ first_records ∷ []; taken = each_from (λ i used. used || lies_in i (born_run s (entry d t (act.Create x) (reply.Domain j g)))) 0 k.taken })
+    StandsFor s (after_birth s k (entry d t (act.Create x) (reply.Domain j g)))
 unfolding is_birth makes_domain ended_by ended_by_act is_export exported_interface received_service received_parcel bound_by_act is_call asked_by queued_as is_take_of is_resume_of answered_by_act new_parts received_objects objects_in is_drop_of ended_object is_allocation makes_extent is_done new_threads is_choice
 stands_after_create s k d t x j g h n =
     record {
@@ -106,7 +105,7 @@ stands_after_create s k d t x j g h n =
 
 -- a spawn that makes a domain
 pub stands_after_spawn : (s : System) (k : Kept) (d t : ℕ) (x : List ℕ) (j : DomainId) (g : ℕ) → StandsFor s k → IsNext s k.past (entry d t (act.Spawn x) (reply.Domain j g)) →
-    StandsFor s (record (with_entry k (entry d t (act.Spawn x) (reply.Domain j g))) { domains = k.domains ++ born s (entry d t (act.Spawn x) (reply.Domain j g)) ∷ []; threads = k.threads ++ first_records ∷ []; taken = each_from (λ i used. used || lies_in i (born_run s (entry d t (act.Spawn x) (reply.Domain j g)))) 0 k.taken })
+    StandsFor s (after_birth s k (entry d t (act.Spawn x) (reply.Domain j g)))
 unfolding is_birth makes_domain ended_by ended_by_act is_export exported_interface received_service received_parcel bound_by_act is_call asked_by queued_as is_take_of is_resume_of answered_by_act new_parts received_objects objects_in is_drop_of ended_object is_allocation makes_extent is_done new_threads is_choice
 stands_after_spawn s k d t x j g h n =
     record {
@@ -128,7 +127,7 @@ stands_after_spawn s k d t x j g h n =
 
 -- an export that makes a service
 pub stands_after_export : (s : System) (k : Kept) (d t : ℕ) (iface : ClassId) (j : ℕ) (v : ServiceId) (c : ClassId) → StandsFor s k → IsNext s k.past (entry d t (act.Export iface j) (reply.Service v c)) →
-    StandsFor s (record (with_entry k (entry d t (act.Export iface j) (reply.Service v c))) { threads = own_added d (replicate j v) k.threads; services = k.services ++ new_service_record s d (Some iface) ∷ [] })
+    StandsFor s (after_export s k (entry d t (act.Export iface j) (reply.Service v c)) v iface j)
 unfolding is_birth makes_domain ended_by ended_by_act is_export exported_interface received_service received_parcel bound_by_act is_call asked_by queued_as is_take_of is_resume_of answered_by_act new_parts received_objects objects_in is_drop_of ended_object is_allocation makes_extent is_done new_threads is_choice is_halt zero_may gives_portal is_number passes
 stands_after_export s k d t iface j v c h n =
     record {
@@ -153,7 +152,7 @@ stands_after_export s k d t iface j v c h n =
 
 -- a bind
 pub stands_after_bind : (s : System) (k : Kept) (d t : ℕ) (name : List ℕ) (v : ServiceId) → StandsFor s k → IsNext s k.past (entry d t (act.Bind name v) reply.Done) →
-    StandsFor s (record (with_entry k (entry d t (act.Bind name v) reply.Done)) { names = (name, v.0) ∷ k.names })
+    StandsFor s (after_bind k (entry d t (act.Bind name v) reply.Done) name v)
 unfolding is_birth makes_domain ended_by ended_by_act is_export exported_interface received_service received_parcel bound_by_act is_call asked_by queued_as is_take_of is_resume_of answered_by_act new_parts received_objects objects_in is_drop_of ended_object is_allocation makes_extent is_done new_threads is_choice reply_to bound gives_portal is_number passes
 stands_after_bind s k d t name v h n =
     record {
@@ -175,7 +174,7 @@ stands_after_bind s k d t name v h n =
 
 -- a lookup that finds a service
 pub stands_after_lookup : (s : System) (k : Kept) (d t : ℕ) (name : List ℕ) (v : ServiceId) (c : ClassId) → StandsFor s k → IsNext s k.past (entry d t (act.Lookup name) (reply.Service v c)) →
-    StandsFor s (record (with_entry k (entry d t (act.Lookup name) (reply.Service v c))) { services = each_record (λ nth item. record item { holders = portals_after (entry d t (act.Lookup name) (reply.Service v c)) nth item.holders }) k.services })
+    StandsFor s (after_lookup k (entry d t (act.Lookup name) (reply.Service v c)))
 unfolding is_birth makes_domain ended_by ended_by_act is_export exported_interface received_service received_parcel bound_by_act is_call asked_by queued_as is_take_of is_resume_of answered_by_act new_parts received_objects objects_in is_drop_of ended_object is_allocation makes_extent is_done new_threads is_choice
 stands_after_lookup s k d t name v c h n =
     record {
@@ -307,7 +306,7 @@ stands_after_resume s k d t c r h n =
 
 -- an allocation
 pub stands_after_alloc : (s : System) (k : Kept) (d t : ℕ) (z : ℤ) (m : ObjectId) (g : ℕ) → StandsFor s k → IsNext s k.past (entry d t (act.Alloc z) (reply.Made m g)) →
-    StandsFor s (record (with_entry k (entry d t (act.Alloc z) (reply.Made m g))) { parts = k.parts ++ ((record { parent = 0; extent = length k.extents + 1; from = 0; size = not_below_zero z }) ∷ []); objects = k.objects ++ new_object_record s d ∷ []; extents = k.extents ++ (record { run = allocated_run (entry d t (act.Alloc z) (reply.Made m g)); bytes = Some (replicate (not_below_zero z) 0) }) ∷ []; taken = each_from (λ i used. used || lies_in i (allocated_run (entry d t (act.Alloc z) (reply.Made m g)))) 0 k.taken })
+    StandsFor s (after_alloc s k (entry d t (act.Alloc z) (reply.Made m g)) (not_below_zero z))
 unfolding is_birth makes_domain ended_by ended_by_act is_export exported_interface received_service received_parcel bound_by_act is_call asked_by queued_as is_take_of is_resume_of answered_by_act new_parts received_objects objects_in is_drop_of ended_object is_allocation makes_extent is_done new_threads is_choice is_halt zero_may new_object_numbers ends_one_of passes allocated_bytes
 stands_after_alloc s k d t z m g h n =
     record {
@@ -329,7 +328,7 @@ stands_after_alloc s k d t z m g h n =
 
 -- a sub of an object of that part
 pub stands_after_sub : (s : System) (k : Kept) (d t : ℕ) (m : ObjectId) (at count : ℤ) (new : ObjectId) (o : Part) → StandsFor s k → IsNext s k.past (entry d t (act.Sub m at count) (reply.Object new)) → numbered k.parts m.0 ≡ Some o →
-    StandsFor s (record (with_entry k (entry d t (act.Sub m at count) (reply.Object new))) { parts = k.parts ++ part_within m.0 o (not_below_zero at) (not_below_zero count) ∷ []; objects = k.objects ++ new_object_record s d ∷ [] })
+    StandsFor s (after_sub s k (entry d t (act.Sub m at count) (reply.Object new)) (part_within m.0 o (not_below_zero at) (not_below_zero count)))
 unfolding is_birth makes_domain ended_by ended_by_act is_export exported_interface received_service received_parcel bound_by_act is_call asked_by queued_as is_take_of is_resume_of answered_by_act new_parts received_objects objects_in is_drop_of ended_object is_allocation makes_extent is_done new_threads is_choice is_halt zero_may new_object_numbers ends_one_of passes made_of
 stands_after_sub s k d t m at count new o h n q =
     record {
@@ -351,7 +350,7 @@ stands_after_sub s k d t m at count new o h n q =
 
 -- a split of an object of that part: it and what is derived from it are valid no more
 pub stands_after_split : (s : System) (k : Kept) (d t : ℕ) (m : ObjectId) (at : ℤ) (x y : ObjectId) (o : Part) → StandsFor s k → IsNext s k.past (entry d t (act.Split m at) (reply.Pair x y)) → numbered k.parts m.0 ≡ Some o →
-    StandsFor s (record (with_entry k (entry d t (act.Split m at) (reply.Pair x y))) { parts = k.parts ++ (sides_at (not_below_zero at) o); objects = each_record (λ j item. record item { valid = item.valid && not (contains_number (lineage_of k.parts j) m.0) }) k.objects ++ replicate 2 (new_object_record s d) })
+    StandsFor s (after_revoke s k (entry d t (act.Split m at) (reply.Pair x y)) m.0 (sides_at (not_below_zero at) o) 2)
 unfolding is_birth makes_domain ended_by ended_by_act is_export exported_interface received_service received_parcel bound_by_act is_call asked_by queued_as is_take_of is_resume_of answered_by_act new_parts received_objects objects_in is_drop_of ended_object is_allocation makes_extent is_done new_threads is_choice is_halt zero_may new_object_numbers ends_one_of passes made_of sides_at
 stands_after_split s k d t m at x y o h n q =
     record {
@@ -373,7 +372,7 @@ stands_after_split s k d t m at x y o h n q =
 
 -- a revoke of an object of that part: it and what is derived from it are valid no more
 pub stands_after_revoke : (s : System) (k : Kept) (d t : ℕ) (m new : ObjectId) (o : Part) → StandsFor s k → IsNext s k.past (entry d t (act.Revoke m) (reply.Object new)) → numbered k.parts m.0 ≡ Some o →
-    StandsFor s (record (with_entry k (entry d t (act.Revoke m) (reply.Object new))) { parts = k.parts ++ (o ∷ []); objects = each_record (λ j item. record item { valid = item.valid && not (contains_number (lineage_of k.parts j) m.0) }) k.objects ++ replicate 1 (new_object_record s d) })
+    StandsFor s (after_revoke s k (entry d t (act.Revoke m) (reply.Object new)) m.0 (o ∷ []) 1)
 unfolding is_birth makes_domain ended_by ended_by_act is_export exported_interface received_service received_parcel bound_by_act is_call asked_by queued_as is_take_of is_resume_of answered_by_act new_parts received_objects objects_in is_drop_of ended_object is_allocation makes_extent is_done new_threads is_choice is_halt zero_may new_object_numbers ends_one_of passes made_of sides_at
 stands_after_revoke s k d t m new o h n q =
     record {
@@ -394,10 +393,10 @@ stands_after_revoke s k d t m new o h n q =
     }
 
 -- a fill of an object of that part
-pub stands_after_fill : (s : System) (k : Kept) (d t : ℕ) (m : ObjectId) (at count : ℤ) (b : ℕ) (o : Part) (i : ℕ) → StandsFor s k → IsNext s k.past (entry d t (act.Fill m at count b) reply.Done) → numbered k.parts m.0 ≡ Some o → o.extent ≡ i + 1 →
-    StandsFor s (record (with_entry k (entry d t (act.Fill m at count b) reply.Done)) { extents = changed_at i (λ item. record item { bytes = option_map (written 0 (o.from + not_below_zero at) (not_below_zero count) (λ j. b)) item.bytes }) k.extents })
+pub stands_after_fill : (s : System) (k : Kept) (d t : ℕ) (m : ObjectId) (at count : ℤ) (b : ℕ) (o : Part) → StandsFor s k → IsNext s k.past (entry d t (act.Fill m at count b) reply.Done) → numbered k.parts m.0 ≡ Some o →
+    StandsFor s (after_write k (entry d t (act.Fill m at count b) reply.Done) o (not_below_zero at) (not_below_zero count) (λ x. b))
 unfolding is_birth makes_domain ended_by ended_by_act is_export exported_interface received_service received_parcel bound_by_act is_call asked_by queued_as is_take_of is_resume_of answered_by_act new_parts received_objects objects_in is_drop_of ended_object is_allocation makes_extent is_done new_threads is_choice reply_to object_part extent_record
-stands_after_fill s k d t m at count b o i h n q z =
+stands_after_fill s k d t m at count b o h n q =
     record {
       admitted = (n, h.admitted);
       over = over_after s k (entry d t (act.Fill m at count b) reply.Done) h n;
@@ -418,6 +417,9 @@ stands_after_fill s k d t m at count b o i h n q z =
     is : numbered (objects_of k.past) m.0 ≡ Some o
     is = ap (λ (xs : List Part). numbered xs m.0) (sym h.parts) ∙ q
 
+    place : o.extent ≡ (o.extent - 1) + 1
+    place = one_before o.extent (part_extent s k.past m.0 o h.admitted is).0
+
     made : o.extent ≤ extents_made k.past
     made = (part_extent s k.past m.0 o h.admitted is).1
 
@@ -430,18 +432,18 @@ stands_after_fill s k d t m at count b o i h n q z =
     record_is : (let item : ExtentRecord = record (extent_record k.past o.extent) { bytes = Some ((written 0 (o.from + not_below_zero at) (not_below_zero count) (λ j. b)) (extent_bytes k.past o.extent)) } in item) ≡ record (extent_record k.past o.extent) { bytes = option_map (written 0 (o.from + not_below_zero at) (not_below_zero count) (λ j. b)) (extent_record k.past o.extent).bytes }
     record_is = ap (λ (on : Bool). let item : ExtentRecord = record (extent_record k.past o.extent) { bytes = option_map (written 0 (o.from + not_below_zero at) (not_below_zero count) (λ j. b)) (kept_bytes on (extent_bytes k.past o.extent)) } in item) (sym used)
 
-    extents : changed_at i (λ item. record item { bytes = option_map (written 0 (o.from + not_below_zero at) (not_below_zero count) (λ j. b)) item.bytes }) k.extents ≡ extent_records (entry d t (act.Fill m at count b) reply.Done ∷ k.past)
+    extents : changed_at (o.extent - 1) (λ item. record item { bytes = option_map (written 0 (o.from + not_below_zero at) (not_below_zero count) (λ j. b)) item.bytes }) k.extents ≡ extent_records (entry d t (act.Fill m at count b) reply.Done ∷ k.past)
     extents =
-        ap (changed_at i (λ (item : ExtentRecord). record item { bytes = option_map (written 0 (o.from + not_below_zero at) (not_below_zero count) (λ j. b)) item.bytes })) h.extents
-        ∙ sym (set_changed i (λ (item : ExtentRecord). record item { bytes = option_map (written 0 (o.from + not_below_zero at) (not_below_zero count) (λ j. b)) item.bytes }) (extent_records k.past) (extent_record k.past o.extent) (extent_record_there k.past o.extent i z made))
-        ∙ ap (set (extent_records k.past) i) (sym record_is)
-        ∙ sym (extents_written s (entry d t (act.Fill m at count b) reply.Done) k.past o.extent i ((written 0 (o.from + not_below_zero at) (not_below_zero count) (λ j. b)) (extent_bytes k.past o.extent)) (n, h.admitted) refl refl (no_drop (entry d t (act.Fill m at count b) reply.Done) (λ x. refl)) z made used (bytes_after_fill d t k.past m o at count b is made) (λ y u v. others_after_fill d t k.past m o at count b y is u v))
+        ap (changed_at (o.extent - 1) (λ (item : ExtentRecord). record item { bytes = option_map (written 0 (o.from + not_below_zero at) (not_below_zero count) (λ j. b)) item.bytes })) h.extents
+        ∙ sym (set_changed (o.extent - 1) (λ (item : ExtentRecord). record item { bytes = option_map (written 0 (o.from + not_below_zero at) (not_below_zero count) (λ j. b)) item.bytes }) (extent_records k.past) (extent_record k.past o.extent) (extent_record_there k.past o.extent (o.extent - 1) place made))
+        ∙ ap (set (extent_records k.past) (o.extent - 1)) (sym record_is)
+        ∙ sym (extents_written s (entry d t (act.Fill m at count b) reply.Done) k.past o.extent (o.extent - 1) ((written 0 (o.from + not_below_zero at) (not_below_zero count) (λ j. b)) (extent_bytes k.past o.extent)) (n, h.admitted) refl refl (no_drop (entry d t (act.Fill m at count b) reply.Done) (λ x. refl)) place made used (bytes_after_fill d t k.past m o at count b is made) (λ y u v. others_after_fill d t k.past m o at count b y is u v))
 
 -- a set in an object of that part
-pub stands_after_set : (s : System) (k : Kept) (d t : ℕ) (m : ObjectId) (at : ℤ) (width : ℕ) (v : ℤ) (o : Part) (i : ℕ) → StandsFor s k → IsNext s k.past (entry d t (act.Set m at width v) reply.Done) → numbered k.parts m.0 ≡ Some o → o.extent ≡ i + 1 →
-    StandsFor s (record (with_entry k (entry d t (act.Set m at width v) reply.Done)) { extents = changed_at i (λ item. record item { bytes = option_map (written 0 (o.from + not_below_zero at) width (low_byte v)) item.bytes }) k.extents })
+pub stands_after_set : (s : System) (k : Kept) (d t : ℕ) (m : ObjectId) (at : ℤ) (width : ℕ) (v : ℤ) (o : Part) → StandsFor s k → IsNext s k.past (entry d t (act.Set m at width v) reply.Done) → numbered k.parts m.0 ≡ Some o →
+    StandsFor s (after_write k (entry d t (act.Set m at width v) reply.Done) o (not_below_zero at) width (low_byte v))
 unfolding is_birth makes_domain ended_by ended_by_act is_export exported_interface received_service received_parcel bound_by_act is_call asked_by queued_as is_take_of is_resume_of answered_by_act new_parts received_objects objects_in is_drop_of ended_object is_allocation makes_extent is_done new_threads is_choice reply_to object_part extent_record
-stands_after_set s k d t m at width v o i h n q z =
+stands_after_set s k d t m at width v o h n q =
     record {
       admitted = (n, h.admitted);
       over = over_after s k (entry d t (act.Set m at width v) reply.Done) h n;
@@ -462,6 +464,9 @@ stands_after_set s k d t m at width v o i h n q z =
     is : numbered (objects_of k.past) m.0 ≡ Some o
     is = ap (λ (xs : List Part). numbered xs m.0) (sym h.parts) ∙ q
 
+    place : o.extent ≡ (o.extent - 1) + 1
+    place = one_before o.extent (part_extent s k.past m.0 o h.admitted is).0
+
     made : o.extent ≤ extents_made k.past
     made = (part_extent s k.past m.0 o h.admitted is).1
 
@@ -474,18 +479,18 @@ stands_after_set s k d t m at width v o i h n q z =
     record_is : (let item : ExtentRecord = record (extent_record k.past o.extent) { bytes = Some ((written 0 (o.from + not_below_zero at) width (low_byte v)) (extent_bytes k.past o.extent)) } in item) ≡ record (extent_record k.past o.extent) { bytes = option_map (written 0 (o.from + not_below_zero at) width (low_byte v)) (extent_record k.past o.extent).bytes }
     record_is = ap (λ (on : Bool). let item : ExtentRecord = record (extent_record k.past o.extent) { bytes = option_map (written 0 (o.from + not_below_zero at) width (low_byte v)) (kept_bytes on (extent_bytes k.past o.extent)) } in item) (sym used)
 
-    extents : changed_at i (λ item. record item { bytes = option_map (written 0 (o.from + not_below_zero at) width (low_byte v)) item.bytes }) k.extents ≡ extent_records (entry d t (act.Set m at width v) reply.Done ∷ k.past)
+    extents : changed_at (o.extent - 1) (λ item. record item { bytes = option_map (written 0 (o.from + not_below_zero at) width (low_byte v)) item.bytes }) k.extents ≡ extent_records (entry d t (act.Set m at width v) reply.Done ∷ k.past)
     extents =
-        ap (changed_at i (λ (item : ExtentRecord). record item { bytes = option_map (written 0 (o.from + not_below_zero at) width (low_byte v)) item.bytes })) h.extents
-        ∙ sym (set_changed i (λ (item : ExtentRecord). record item { bytes = option_map (written 0 (o.from + not_below_zero at) width (low_byte v)) item.bytes }) (extent_records k.past) (extent_record k.past o.extent) (extent_record_there k.past o.extent i z made))
-        ∙ ap (set (extent_records k.past) i) (sym record_is)
-        ∙ sym (extents_written s (entry d t (act.Set m at width v) reply.Done) k.past o.extent i ((written 0 (o.from + not_below_zero at) width (low_byte v)) (extent_bytes k.past o.extent)) (n, h.admitted) refl refl (no_drop (entry d t (act.Set m at width v) reply.Done) (λ x. refl)) z made used (bytes_after_set d t k.past m o at width v is made) (λ y u x. others_after_set d t k.past m o at width v y is u x))
+        ap (changed_at (o.extent - 1) (λ (item : ExtentRecord). record item { bytes = option_map (written 0 (o.from + not_below_zero at) width (low_byte v)) item.bytes })) h.extents
+        ∙ sym (set_changed (o.extent - 1) (λ (item : ExtentRecord). record item { bytes = option_map (written 0 (o.from + not_below_zero at) width (low_byte v)) item.bytes }) (extent_records k.past) (extent_record k.past o.extent) (extent_record_there k.past o.extent (o.extent - 1) place made))
+        ∙ ap (set (extent_records k.past) (o.extent - 1)) (sym record_is)
+        ∙ sym (extents_written s (entry d t (act.Set m at width v) reply.Done) k.past o.extent (o.extent - 1) ((written 0 (o.from + not_below_zero at) width (low_byte v)) (extent_bytes k.past o.extent)) (n, h.admitted) refl refl (no_drop (entry d t (act.Set m at width v) reply.Done) (λ x. refl)) place made used (bytes_after_set d t k.past m o at width v is made) (λ y u x. others_after_set d t k.past m o at width v y is u x))
 
 -- a copy from one object's part into another's
-pub stands_after_copy : (s : System) (k : Kept) (d t : ℕ) (j : ObjectId) (j_at : ℤ) (m : ObjectId) (at count : ℤ) (source : Part) (o : Part) (i : ℕ) → StandsFor s k → IsNext s k.past (entry d t (act.Copy j j_at m at count) reply.Done) → numbered k.parts m.0 ≡ Some o → o.extent ≡ i + 1 → numbered k.parts j.0 ≡ Some source →
-    StandsFor s (record (with_entry k (entry d t (act.Copy j j_at m at count) reply.Done)) { extents = changed_at i (λ item. record item { bytes = option_map (written 0 (o.from + not_below_zero at) (not_below_zero count) (λ x. byte_at k.past source.extent (source.from + (not_below_zero j_at + x)))) item.bytes }) k.extents })
+pub stands_after_copy : (s : System) (k : Kept) (d t : ℕ) (j : ObjectId) (j_at : ℤ) (m : ObjectId) (at count : ℤ) (source : Part) (o : Part) → StandsFor s k → IsNext s k.past (entry d t (act.Copy j j_at m at count) reply.Done) → numbered k.parts m.0 ≡ Some o → numbered k.parts j.0 ≡ Some source →
+    StandsFor s (after_write k (entry d t (act.Copy j j_at m at count) reply.Done) o (not_below_zero at) (not_below_zero count) (λ x. byte_at k.past source.extent (source.from + (not_below_zero j_at + x))))
 unfolding is_birth makes_domain ended_by ended_by_act is_export exported_interface received_service received_parcel bound_by_act is_call asked_by queued_as is_take_of is_resume_of answered_by_act new_parts received_objects objects_in is_drop_of ended_object is_allocation makes_extent is_done new_threads is_choice reply_to object_part extent_record
-stands_after_copy s k d t j j_at m at count source o i h n q z y =
+stands_after_copy s k d t j j_at m at count source o h n q y =
     record {
       admitted = (n, h.admitted);
       over = over_after s k (entry d t (act.Copy j j_at m at count) reply.Done) h n;
@@ -509,6 +514,9 @@ stands_after_copy s k d t j j_at m at count source o i h n q z y =
     from_is : numbered (objects_of k.past) j.0 ≡ Some source
     from_is = ap (λ (xs : List Part). numbered xs j.0) (sym h.parts) ∙ y
 
+    place : o.extent ≡ (o.extent - 1) + 1
+    place = one_before o.extent (part_extent s k.past m.0 o h.admitted is).0
+
     made : o.extent ≤ extents_made k.past
     made = (part_extent s k.past m.0 o h.admitted is).1
 
@@ -521,9 +529,9 @@ stands_after_copy s k d t j j_at m at count source o i h n q z y =
     record_is : (let item : ExtentRecord = record (extent_record k.past o.extent) { bytes = Some ((written 0 (o.from + not_below_zero at) (not_below_zero count) (λ x. byte_at k.past source.extent (source.from + (not_below_zero j_at + x)))) (extent_bytes k.past o.extent)) } in item) ≡ record (extent_record k.past o.extent) { bytes = option_map (written 0 (o.from + not_below_zero at) (not_below_zero count) (λ x. byte_at k.past source.extent (source.from + (not_below_zero j_at + x)))) (extent_record k.past o.extent).bytes }
     record_is = ap (λ (on : Bool). let item : ExtentRecord = record (extent_record k.past o.extent) { bytes = option_map (written 0 (o.from + not_below_zero at) (not_below_zero count) (λ x. byte_at k.past source.extent (source.from + (not_below_zero j_at + x)))) (kept_bytes on (extent_bytes k.past o.extent)) } in item) (sym used)
 
-    extents : changed_at i (λ item. record item { bytes = option_map (written 0 (o.from + not_below_zero at) (not_below_zero count) (λ x. byte_at k.past source.extent (source.from + (not_below_zero j_at + x)))) item.bytes }) k.extents ≡ extent_records (entry d t (act.Copy j j_at m at count) reply.Done ∷ k.past)
+    extents : changed_at (o.extent - 1) (λ item. record item { bytes = option_map (written 0 (o.from + not_below_zero at) (not_below_zero count) (λ x. byte_at k.past source.extent (source.from + (not_below_zero j_at + x)))) item.bytes }) k.extents ≡ extent_records (entry d t (act.Copy j j_at m at count) reply.Done ∷ k.past)
     extents =
-        ap (changed_at i (λ (item : ExtentRecord). record item { bytes = option_map (written 0 (o.from + not_below_zero at) (not_below_zero count) (λ x. byte_at k.past source.extent (source.from + (not_below_zero j_at + x)))) item.bytes })) h.extents
-        ∙ sym (set_changed i (λ (item : ExtentRecord). record item { bytes = option_map (written 0 (o.from + not_below_zero at) (not_below_zero count) (λ x. byte_at k.past source.extent (source.from + (not_below_zero j_at + x)))) item.bytes }) (extent_records k.past) (extent_record k.past o.extent) (extent_record_there k.past o.extent i z made))
-        ∙ ap (set (extent_records k.past) i) (sym record_is)
-        ∙ sym (extents_written s (entry d t (act.Copy j j_at m at count) reply.Done) k.past o.extent i ((written 0 (o.from + not_below_zero at) (not_below_zero count) (λ x. byte_at k.past source.extent (source.from + (not_below_zero j_at + x)))) (extent_bytes k.past o.extent)) (n, h.admitted) refl refl (no_drop (entry d t (act.Copy j j_at m at count) reply.Done) (λ x. refl)) z made used (bytes_after_copy d t k.past j j_at m o at count source is from_is made) (λ y u v. others_after_copy d t k.past j j_at m o at count y source is from_is u v))
+        ap (changed_at (o.extent - 1) (λ (item : ExtentRecord). record item { bytes = option_map (written 0 (o.from + not_below_zero at) (not_below_zero count) (λ x. byte_at k.past source.extent (source.from + (not_below_zero j_at + x)))) item.bytes })) h.extents
+        ∙ sym (set_changed (o.extent - 1) (λ (item : ExtentRecord). record item { bytes = option_map (written 0 (o.from + not_below_zero at) (not_below_zero count) (λ x. byte_at k.past source.extent (source.from + (not_below_zero j_at + x)))) item.bytes }) (extent_records k.past) (extent_record k.past o.extent) (extent_record_there k.past o.extent (o.extent - 1) place made))
+        ∙ ap (set (extent_records k.past) (o.extent - 1)) (sym record_is)
+        ∙ sym (extents_written s (entry d t (act.Copy j j_at m at count) reply.Done) k.past o.extent (o.extent - 1) ((written 0 (o.from + not_below_zero at) (not_below_zero count) (λ x. byte_at k.past source.extent (source.from + (not_below_zero j_at + x)))) (extent_bytes k.past o.extent)) (n, h.admitted) refl refl (no_drop (entry d t (act.Copy j j_at m at count) reply.Done) (λ x. refl)) place made used (bytes_after_copy d t k.past j j_at m o at count source is from_is made) (λ y u v. others_after_copy d t k.past j j_at m o at count y source is from_is u v))

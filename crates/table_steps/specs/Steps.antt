@@ -4,27 +4,29 @@ use Rattle.std.specs.List.{list_any, cons_option}
 use Rattle.std.specs.Option.{option_and_then, option_map, unwrap_or}
 use Rattle.jx_base.specs.declared.act.Entry.{Entry}
 use Rattle.jx_base.specs.declared.ids.ServiceId.{ServiceId}
+use Rattle.jx_base.specs.declared.ids.ClassId.{ClassId}
 use Rattle.jx_base.specs.declared.states.CallState.TheVariants as call
 use Rattle.jx_base.specs.declared.value.Parcel.{Parcel}
 use Rattle.jx_base.specs.declared.act.Reason.{Reason}
 use Rattle.jx_base.specs.declared.program.System.{System}
 use Rattle.jx_base.specs.declared.states.DomainState.{DomainState}
-use Rattle.jx_base.specs.Basics.{up_to, passes, numbered, is_number}
+use Rattle.jx_base.specs.Basics.{up_to, passes, numbered, is_number, contains_number}
 use Rattle.program_model.specs.ParcelParts.{parcel_objects}
 use Rattle.program_model.specs.Limits.{granule_limit}
 use Rattle.jx_model.specs.Journal.{entry_words}
 use Rattle.jx_model.specs.Domains.{named_template, reply_granule}
-use Rattle.jx_model.specs.MemoryObjects.{Part, allocated_bytes}
-use Rattle.jx_model.specs.Granules.{Run, heap_granules, extent_granules, lies_in_one}
+use Rattle.jx_model.specs.MemoryObjects.{Part, allocated_bytes, lineage_of}
+use Rattle.jx_model.specs.Granules.{Run, heap_granules, extent_granules, lies_in, lies_in_one}
 use Rattle.jx_model.specs.Calls.{Answer, answer_kind}
 use Rattle.jx_model.specs.Holding.{answer_objects}
 use Rattle.jx_model.specs.Permits.{is_ending, is_create_entry}
 use Rattle.jx_model.specs.Tables.{Kept, ThreadRecord, ServiceRecord, CallRecord, ObjectRecord, ExtentRecord}
 use Rattle.table_threads.specs.Changes.{is_set, each_from, each_record, changed_at}
-use Rattle.table_threads.specs.ThreadChanges.{thread_record_after, own_changed}
+use Rattle.table_threads.specs.ThreadChanges.{born, first_records, thread_record_after, own_changed, own_added}
 use Rattle.table_threads.specs.CallChanges.{ended_call}
 use Rattle.table_objects.specs.HolderChanges.{portals_after}
-use Rattle.table_objects.specs.ObjectChanges.{object_record_after}
+use Rattle.table_objects.specs.ObjectChanges.{new_service_record, new_object_record, object_record_after}
+use Rattle.table_extents.specs.ExtentChanges.{written}
 use Rattle.table_reads.specs.TableReads.{owner_in, service_in}
 
 -- what is kept before the first entry
@@ -87,6 +89,35 @@ handed_services k e = each_record (λ j item. record item { holders = portals_af
 abbrev pub handed_objects : Kept → Entry → List CallRecord → List ObjectRecord
 handed_objects k e calls = each_record (object_record_after e k.parts calls) k.objects
 
+-- the granules in use with those of a run
+abbrev pub with_run : Run → List Bool → List Bool
+with_run run taken = each_from (λ g used. used || lies_in g run) 0 taken
+
+-- after a create or spawn that makes a domain
+abbrev pub after_birth : System → Kept → Entry → Kept
+after_birth s k e =
+    record (with_entry k e) {
+      domains = k.domains ++ born s e ∷ [];
+      threads = k.threads ++ first_records ∷ [];
+      taken = with_run (born_run s e) k.taken;
+    }
+
+-- after an export that makes a service with so many threads
+abbrev pub after_export : System → Kept → Entry → ServiceId → ClassId → ℕ → Kept
+after_export s k e service interface count =
+    record (with_entry k e) {
+      threads = own_added e.domain.0 (replicate count service) k.threads;
+      services = k.services ++ new_service_record s e.domain.0 (Some interface) ∷ [];
+    }
+
+-- after a bind
+abbrev pub after_bind : Kept → Entry → List ℕ → ServiceId → Kept
+after_bind k e name service = record (with_entry k e) { names = (name, service.0) ∷ k.names }
+
+-- after a lookup that finds a service
+abbrev pub after_lookup : Kept → Entry → Kept
+after_lookup k e = record (with_entry k e) { services = handed_services k e }
+
 -- the record of a call that the entry queues
 abbrev pub queued_call : Kept → Entry → ServiceId → Parcel → CallRecord
 queued_call k e service parcel =
@@ -147,6 +178,52 @@ after_resume k e c =
       services = handed_services k e;
       calls = calls;
       objects = handed_objects k e calls;
+    }
+
+-- the part of a new object that has an extent of its own
+abbrev pub whole_part : Kept → ℕ → Part
+whole_part k size = record { parent = 0; extent = length k.extents + 1; from = 0; size = size }
+
+-- the record of a new extent of zeros
+abbrev pub new_extent : Entry → ℕ → ExtentRecord
+new_extent e size = record { run = allocated_run e; bytes = Some (replicate size 0) }
+
+-- after an allocation of so many bytes
+abbrev pub after_alloc : System → Kept → Entry → ℕ → Kept
+after_alloc s k e size =
+    record (with_entry k e) {
+      parts = k.parts ++ whole_part k size ∷ [];
+      objects = k.objects ++ new_object_record s e.domain.0 ∷ [];
+      extents = k.extents ++ new_extent e size ∷ [];
+      taken = with_run (allocated_run e) k.taken;
+    }
+
+-- after a sub that makes that part
+abbrev pub after_sub : System → Kept → Entry → Part → Kept
+after_sub s k e part =
+    record (with_entry k e) {
+      parts = k.parts ++ part ∷ [];
+      objects = k.objects ++ new_object_record s e.domain.0 ∷ [];
+    }
+
+-- the objects, of which m and what is derived from it are valid no more
+abbrev pub revoked_objects : Kept → ℕ → List ObjectRecord
+revoked_objects k m =
+    each_record (λ j item. record item { valid = item.valid && not (contains_number (lineage_of k.parts j) m) }) k.objects
+
+-- after a split or revoke of object m that makes so many parts
+abbrev pub after_revoke : System → Kept → Entry → ℕ → List Part → ℕ → Kept
+after_revoke s k e m parts count =
+    record (with_entry k e) {
+      parts = k.parts ++ parts;
+      objects = revoked_objects k m ++ replicate count (new_object_record s e.domain.0);
+    }
+
+-- after a write of so many bytes from there in an object of that part
+abbrev pub after_write : Kept → Entry → Part → ℕ → ℕ → (ℕ → ℕ) → Kept
+after_write k e part at count f =
+    record (with_entry k e) {
+      extents = changed_at (part.extent - 1) (λ item. record item { bytes = option_map (written 0 (part.from + at) count f) item.bytes }) k.extents;
     }
 
 -- ---- what ends
