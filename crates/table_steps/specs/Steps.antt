@@ -65,11 +65,14 @@ is_record_used item = item.valid && (list_any is_set item.holders || nat_lt 0 it
 
 -- whether an extent is in use, by the parts and the records of the objects
 abbrev pub in_use_by : List Part → List ObjectRecord → ℕ → Bool
-in_use_by parts objects x = list_any (λ m. passes (λ o. o.extent == x) (numbered parts m) && passes is_record_used (numbered objects m)) (up_to (length parts))
+in_use_by parts objects x =
+    list_any (λ m. passes (λ o. o.extent == x) (numbered parts m) && passes is_record_used (numbered objects m))
+    (up_to (length parts))
 
 -- the run of a new domain's heap
 abbrev pub born_run : System → Entry → Run
-born_run s e = (reply_granule e.reply, unwrap_or (option_map (heap_granules s) (named_template s e.act)) 0)
+born_run s e =
+    (reply_granule e.reply, unwrap_or (option_map (heap_granules s) (named_template s e.act)) 0)
 
 -- the run of a new extent
 abbrev pub allocated_run : Entry → Run
@@ -79,11 +82,13 @@ allocated_run e = (reply_granule e.reply, extent_granules (allocated_bytes e.act
 
 -- the threads, with the record of the entry's own changed
 abbrev pub moved_threads : Kept → Entry → List (List ThreadRecord)
-moved_threads k e = own_changed e.domain.0 e.thread.0 (λ item. thread_record_after item e.act e.reply) k.threads
+moved_threads k e =
+    own_changed e.domain.0 e.thread.0 (λ item. thread_record_after item e.act e.reply) k.threads
 
 -- the services, with who holds them after the entry
 abbrev pub handed_services : Kept → Entry → List ServiceRecord
-handed_services k e = each_record (λ j item. record item { holders = portals_after e j item.holders }) k.services
+handed_services k e =
+    each_record (λ j item. record item { holders = portals_after e j item.holders }) k.services
 
 -- the objects after the entry, with those calls
 abbrev pub handed_objects : Kept → Entry → List CallRecord → List ObjectRecord
@@ -142,10 +147,14 @@ after_call k e service parcel =
       objects = handed_objects k e calls;
     }
 
+-- the record of a call that is taken
+abbrev pub taken_call : CallRecord → CallRecord
+taken_call item = record item { state = call.Running; carried = [] }
+
 -- after a take of the call
 abbrev pub after_take : Kept → Entry → ℕ → Kept
 after_take k e c =
-    let calls : List CallRecord = changed_at (c - 1) (λ item. record item { state = call.Running; carried = [] }) k.calls in
+    let calls : List CallRecord = changed_at (c - 1) taken_call k.calls in
     record (with_entry k e) {
       threads = moved_threads k e;
       services = handed_services k e;
@@ -167,12 +176,20 @@ answered_call x at item =
 abbrev pub after_answer : Kept → Entry → ℕ → Answer → Kept
 after_answer k e c x =
     let calls : List CallRecord = changed_at (c - 1) (answered_call x (length k.past)) k.calls in
-    record (with_entry k e) { threads = moved_threads k e; calls = calls; objects = handed_objects k e calls }
+    record (with_entry k e) {
+      threads = moved_threads k e;
+      calls = calls;
+      objects = handed_objects k e calls;
+    }
+
+-- the record of a call after which its caller goes on
+abbrev pub resumed_call : CallRecord → CallRecord
+resumed_call item = record item { state = call.Resumed; carried = [] }
 
 -- after a resume behind the call
 abbrev pub after_resume : Kept → Entry → ℕ → Kept
 after_resume k e c =
-    let calls : List CallRecord = changed_at (c - 1) (λ item. record item { state = call.Resumed; carried = [] }) k.calls in
+    let calls : List CallRecord = changed_at (c - 1) resumed_call k.calls in
     record (with_entry k e) {
       threads = moved_threads k e;
       services = handed_services k e;
@@ -209,7 +226,8 @@ after_sub s k e part =
 -- the objects, of which m and what is derived from it are valid no more
 abbrev pub revoked_objects : Kept → ℕ → List ObjectRecord
 revoked_objects k m =
-    each_record (λ j item. record item { valid = item.valid && not (contains_number (lineage_of k.parts j) m) }) k.objects
+    each_record (λ j item. record item { valid = item.valid && not (contains_number (lineage_of k.parts j) m) })
+    k.objects
 
 -- after a split or revoke of object m that makes so many parts
 abbrev pub after_revoke : System → Kept → Entry → ℕ → List Part → ℕ → Kept
@@ -219,11 +237,15 @@ after_revoke s k e m parts count =
       objects = revoked_objects k m ++ replicate count (new_object_record s e.domain.0);
     }
 
+-- the record of an extent with so many bytes from there written
+abbrev pub written_extent : ℕ → ℕ → (ℕ → ℕ) → ExtentRecord → ExtentRecord
+written_extent from count f item = record item { bytes = option_map (written 0 from count f) item.bytes }
+
 -- after a write of so many bytes from there in an object of that part
 abbrev pub after_write : Kept → Entry → Part → ℕ → ℕ → (ℕ → ℕ) → Kept
 after_write k e part at count f =
     record (with_entry k e) {
-      extents = changed_at (part.extent - 1) (λ item. record item { bytes = option_map (written 0 (part.from + at) count f) item.bytes }) k.extents;
+      extents = changed_at (part.extent - 1) (written_extent (part.from + at) count f) k.extents;
     }
 
 -- ---- what ends
@@ -234,7 +256,8 @@ owns services d k = is_number (owner_in services k) d
 
 -- whether the call is to a service of domain d
 abbrev pub is_call_to : List ServiceRecord → List CallRecord → ℕ → ℕ → Bool
-is_call_to services calls d c = is_number (option_and_then (owner_in services) (service_in calls c)) d
+is_call_to services calls d c =
+    is_number (option_and_then (owner_in services) (service_in calls c)) d
 
 -- the run of a domain's heap, by its record
 abbrev pub heap_of : System → DomainState → Run
@@ -244,7 +267,7 @@ heap_of s item = (item.at, heap_granules s item.template)
 abbrev pub heap_in : System → List DomainState → ℕ → Run
 heap_in s domains d = unwrap_or (option_map (heap_of s) (numbered domains d)) (0, 0)
 
--- the runs of extents, the first with that number, that were in use and are no more with these objects
+-- the runs of extents, counted from that number, that were in use and are no more with these objects
 abbrev pub freed_from : List Part → List ObjectRecord → ℕ → List ExtentRecord → List Run
 freed_from parts objects x [] = []
 freed_from parts objects x (item ∷ items) =
@@ -254,7 +277,8 @@ freed_from parts objects x (item ∷ items) =
 -- the extents, with the bytes of those that are in use with these objects
 abbrev pub kept_extents : List Part → List ObjectRecord → List ExtentRecord → List ExtentRecord
 kept_extents parts objects items =
-    each_record (λ x item. record item { bytes = if in_use_by parts objects x then item.bytes else None }) items
+    each_record (λ x item. record item { bytes = if in_use_by parts objects x then item.bytes else None })
+    items
 
 -- the granules in use without those of the runs
 abbrev pub without_runs : List Run → List Bool → List Bool
