@@ -21,7 +21,8 @@ writes _ = false
 -- a list of bytes, its first at that place, with so many of them from there written
 abbrev pub written : ℕ → ℕ → ℕ → (ℕ → ℕ) → List ℕ → List ℕ
 written k from count f [] = []
-written k from count f (b ∷ bytes) = cond (nat_le from k && nat_lt k (from + count)) (f (k - from)) b ∷ written (k + 1) from count f bytes
+written k from count f (b ∷ bytes) =
+    cond (nat_le from k && nat_lt k (from + count)) (f (k - from)) b ∷ written (k + 1) from count f bytes
 
 -- whether an entry ends the use of a heap
 abbrev pub is_heap_freed : Entry → Past → ℕ → Bool

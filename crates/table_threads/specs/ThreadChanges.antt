@@ -21,7 +21,13 @@ use Rattle.table_threads.specs.Changes.{changed_at}
 
 -- the record of the domain that an entry makes
 abbrev pub born : System → Entry → DomainState
-born s e = record { template = unwrap_or (named_template s e.act) 0; creator = e.domain; at = reply_granule e.reply; ended = None }
+born s e =
+    record {
+      template = unwrap_or (named_template s e.act) 0;
+      creator = e.domain;
+      at = reply_granule e.reply;
+      ended = None;
+    }
 
 -- what a thread does where nothing made it stop
 abbrev pub runs_as : Option ServiceId → Option CallId → ThreadState
