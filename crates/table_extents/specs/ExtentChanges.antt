@@ -7,7 +7,6 @@ use Rattle.jx_base.specs.declared.program.System.{System}
 use Rattle.jx_base.specs.Basics.{up_to}
 use Rattle.jx_base.specs.Histories.{Past}
 use Rattle.jx_model.specs.MemoryObjects.{extents_made}
-use Rattle.table_threads.specs.CallChanges.{entry}
 use Rattle.jx_model.specs.Domains.{is_live, domains_made}
 use Rattle.jx_model.specs.Holding.{is_extent_in_use}
 use Rattle.jx_model.specs.Granules.{Run, run_if, heap_run, extent_run}
@@ -22,7 +21,8 @@ writes _ = false
 -- a list of bytes, its first at that place, with so many of them from there written
 abbrev pub written : ℕ → ℕ → ℕ → (ℕ → ℕ) → List ℕ → List ℕ
 written k from count f [] = []
-written k from count f (b ∷ bytes) = cond (nat_le from k && nat_lt k (from + count)) (f (k - from)) b ∷ written (k + 1) from count f bytes
+written k from count f (b ∷ bytes) =
+    cond (nat_le from k && nat_lt k (from + count)) (f (k - from)) b ∷ written (k + 1) from count f bytes
 
 -- whether an entry ends the use of a heap
 abbrev pub is_heap_freed : Entry → Past → ℕ → Bool

@@ -21,7 +21,8 @@ drops_object e d m = is_own d e && is_done e.reply && is_drop_of m e.act
 
 -- whether a domain holds an object after an entry, from whether it did
 abbrev pub held_after : Entry → ℕ → ℕ → Bool → Bool
-held_after e m d held = not (ends_domain (ended_by e) (Some d)) && (gives_object e d m || (not (drops_object e d m) && held))
+held_after e m d held =
+    not (ends_domain (ended_by e) (Some d)) && (gives_object e d m || (not (drops_object e d m) && held))
 
 -- the flags of one domain alone
 abbrev pub only_flag : System → ℕ → List Bool
@@ -29,7 +30,8 @@ only_flag s d = map (λ k. d == k) (up_to (domain_limit s))
 
 -- whether a domain holds a portal after an entry, from whether it did
 abbrev pub portal_after : Entry → ℕ → ℕ → Bool → Bool
-portal_after e k d held = not (ends_domain (ended_by e) (Some d)) && ((is_own d e && gives_portal k e) || held)
+portal_after e k d held =
+    not (ends_domain (ended_by e) (Some d)) && ((is_own d e && gives_portal k e) || held)
 
 -- who holds a portal after an entry, from who held it before
 abbrev pub portals_after : Entry → ℕ → List Bool → List Bool

@@ -7,7 +7,6 @@ use Rattle.jx_base.specs.Basics.{contains_number}
 use Rattle.jx_model.specs.Tables.{ServiceRecord, ObjectRecord, CallRecord}
 use Rattle.table_objects.specs.HolderChanges.{only_flag, holders_after}
 use Rattle.jx_model.specs.MemoryObjects.{Part, ends_one_of, lineage_of}
-use Rattle.jx_model.specs.Holding.{carried}
 
 -- the record of a service that domain d just exported
 abbrev pub new_service_record : System → ℕ → Option ClassId → ServiceRecord

@@ -1,5 +1,5 @@
 -- What is permitted, and what replies ask, in words of the tables alone.
-use Rattle.std.specs.Prelude.{ℕ, ◌+◌, Bool, true, false, not, ◌&&◌, ◌||◌, List, [], ◌∷◌, Option, Some, None, is_some, is_none, ◌==◌, if◌then◌else◌, filter, slice_get, nat_lt, ◌-◌}
+use Rattle.std.specs.Prelude.{ℕ, ◌+◌, Bool, true, false, not, ◌&&◌, ◌||◌, List, [], ◌∷◌, Option, Some, None, is_some, is_none, ◌==◌, if◌then◌else◌, filter, slice_get, nat_lt}
 use Rattle.jx_base.specs.declared.act.Act.{Act}
 use Rattle.jx_base.specs.declared.act.Act.TheVariants as act
 use Rattle.jx_base.specs.declared.ids.ServiceId.{ServiceId}
@@ -32,7 +32,8 @@ thread_in items p = place_from (λ item. p item.state) 0 items
 
 -- the running thread, by the records
 abbrev pub running_in : List DomainState → List ThreadRecord → ℕ → Option ℕ
-running_in domains threads d = if lives_in domains d then thread_in threads is_running_state else None
+running_in domains threads d =
+    if lives_in domains d then thread_in threads is_running_state else None
 
 -- whether a call in that state is answered and its caller hasn't gone on
 abbrev pub is_answered : CallState → Bool
@@ -41,32 +42,38 @@ is_answered _ = false
 
 -- whether a caller can go on after a call, by the records
 abbrev pub resumable_in : List DomainState → List CallRecord → ℕ → Bool
-resumable_in domains calls c = passes (λ item. is_answered item.state && lives_in domains item.caller) (numbered calls c)
+resumable_in domains calls c =
+    passes (λ item. is_answered item.state && lives_in domains item.caller) (numbered calls c)
 
 -- the first waiting call of a service, by the records
 abbrev pub head_in : List CallRecord → List ℕ → ℕ → Option ℕ
-head_in calls waiting k = slice_get (filter (λ c. passes (λ item. item.service == k) (numbered calls c)) waiting) 0
+head_in calls waiting k =
+    slice_get (filter (λ c. passes (λ item. item.service == k) (numbered calls c)) waiting) 0
 
 -- the resume of a thread in that state, by the records
 abbrev pub resume_by : List DomainState → List CallRecord → ThreadState → Option Act
-resume_by domains calls (thread.Waiting c) = if resumable_in domains calls c.0 then Some (act.Resume c) else None
+resume_by domains calls (thread.Waiting c) =
+    if resumable_in domains calls c.0 then Some (act.Resume c) else None
 resume_by domains calls _ = None
 
 -- the take of a service's first call where a thread of it is idle, by the records
 abbrev pub take_by : List ThreadRecord → List CallRecord → List ℕ → ℕ → Option Act
-take_by threads calls waiting k = if is_some (thread_in threads (is_idle_for k)) then option_map (λ c. act.Take (record { 0 = c })) (head_in calls waiting k) else None
+take_by threads calls waiting k =
+    if is_some (thread_in threads (is_idle_for k)) then option_map (λ c. act.Take (record { 0 = c })) (head_in calls waiting k) else None
 
 -- the first choice of a domain with those services, by the records
 abbrev pub choice_by : List DomainState → List ThreadRecord → List CallRecord → List ℕ → List ServiceId → ℕ → Option Act
 choice_by domains threads calls waiting services d =
     if lives_in domains d && is_none (running_in domains threads d)
     then option_or (first_some (λ item. resume_by domains calls item.state) threads)
-    (option_or (first_some (λ k. take_by threads calls waiting k.0) services) (option_map (λ t. act.Go (record { 0 = t })) (thread_in threads is_yielded)))
+    (option_or (first_some (λ k. take_by threads calls waiting k.0) services)
+    (option_map (λ t. act.Go (record { 0 = t })) (thread_in threads is_yielded)))
     else None
 
 -- whether a domain can act, by the records
 abbrev pub can_act_by : List DomainState → List ThreadRecord → List CallRecord → List ℕ → List ServiceId → ℕ → Bool
-can_act_by domains threads calls waiting services d = is_some (running_in domains threads d) || is_some (choice_by domains threads calls waiting services d)
+can_act_by domains threads calls waiting services d =
+    is_some (running_in domains threads d) || is_some (choice_by domains threads calls waiting services d)
 
 -- the service of a call, and its owner, by the records
 abbrev pub service_in : List CallRecord → ℕ → Option ℕ
@@ -78,8 +85,10 @@ owner_in services k = option_map (λ item. item.owner) (numbered services k)
 
 -- whether a running thread may perform the act, by the records
 abbrev pub performs_by : List ThreadRecord → ℕ → Act → Bool
-performs_by items t (act.Return c p) = passes (is_serving c.0) (option_map (λ item. item.state) (slice_get items t))
-performs_by items t (act.Throw c p) = passes (is_serving c.0) (option_map (λ item. item.state) (slice_get items t))
+performs_by items t (act.Return c p) =
+    passes (is_serving c.0) (option_map (λ item. item.state) (slice_get items t))
+performs_by items t (act.Throw c p) =
+    passes (is_serving c.0) (option_map (λ item. item.state) (slice_get items t))
 performs_by items t (act.EndThread c) = t == 0
 performs_by items t a = not (is_zero_act a) && not (is_choice a)
 
@@ -88,8 +97,10 @@ abbrev pub choice_thread_by : List DomainState → List ThreadRecord → List Se
 choice_thread_by domains threads services calls waiting d (act.Take c) =
     if is_number (option_and_then (owner_in services) (service_in calls c.0)) d && is_number (option_and_then (head_in calls waiting) (service_in calls c.0)) c.0
     then option_and_then (λ k. thread_in threads (is_idle_for k)) (service_in calls c.0) else None
-choice_thread_by domains threads services calls waiting d (act.Resume c) = if resumable_in domains calls c.0 then thread_in threads (is_waiting_for c.0) else None
-choice_thread_by domains threads services calls waiting d (act.Go t) = if passes is_yielded (option_map (λ item. item.state) (slice_get threads t.0)) then Some t.0 else None
+choice_thread_by domains threads services calls waiting d (act.Resume c) =
+    if resumable_in domains calls c.0 then thread_in threads (is_waiting_for c.0) else None
+choice_thread_by domains threads services calls waiting d (act.Go t) =
+    if passes is_yielded (option_map (λ item. item.state) (slice_get threads t.0)) then Some t.0 else None
 choice_thread_by domains threads services calls waiting d _ = None
 
 -- the thread of a domain's act, by the records
@@ -106,7 +117,8 @@ zero_by boot alive (act.Create t) = is_number boot t
 zero_by boot alive act.Quiet = is_none boot && is_none alive
 zero_by boot alive _ = false
 
--- the thread of an act, by whether the run is over, the words of the journal, the creates, the first domain that can act, and the thread of the domain's act
+-- the thread of an act, by whether the run is over, the words of the journal, the creates, the first
+-- domain that can act, and the thread of the domain's act
 abbrev pub acting_by : System → Bool → ℕ → ℕ → Option ℕ → Option ℕ → ℕ → Act → Option ℕ
 acting_by s over words creates alive thread d a =
     let full : Bool = nat_lt (journal_limit s) (words + entry_limit s) in

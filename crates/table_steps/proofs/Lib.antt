@@ -4,3 +4,4 @@ pub mod ActSteps
 pub mod PlainSteps
 pub mod FirstKept
 pub mod RecordForms
+pub mod EndSteps

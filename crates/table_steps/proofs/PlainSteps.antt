@@ -15,7 +15,7 @@ use Rattle.jx_model.specs.Legal.{IsNext}
 use Rattle.table_threads.specs.ThreadChanges.{thread_record_after, leaves_thread, own_changed}
 use Rattle.table_threads.proofs.ThreadActs.{threads_stepped, threads_left}
 use Rattle.table_threads.specs.CallChanges.{entry}
-use Rattle.table_steps.specs.Steps.{with_entry}
+use Rattle.table_steps.specs.Steps.{with_entry, moved_threads}
 use Rattle.table_steps.proofs.Unchanged.{IsPlain, stands_after_plain, plain_act, plain_lookup, plain_refusal, is_plain_act, touches_calls}
 use Rattle.jx_model.proofs.Refusals.{no_threads}
 
@@ -26,7 +26,7 @@ adds_no_threads _ r h = refl
 
 -- a print, go, size, get, yield or end of a thread, a quiet or a halt changes the record of its thread alone
 pub stands_after_plain_act : (s : System) (k : Kept) (d t : ℕ) (a : Act) (r : Reply) → StandsFor s k → IsNext s k.past (entry d t a r) → is_plain_act a ≡ true →
-    StandsFor s (record (with_entry k (entry d t a r)) { threads = own_changed d t (λ item. thread_record_after item a r) k.threads })
+    StandsFor s (record (with_entry k (entry d t a r)) { threads = moved_threads k (entry d t a r) })
 stands_after_plain_act s k d t a r h n p =
     let q : IsPlain k.past (entry d t a r) = plain_act k.past d t a r p in
     stands_after_plain s k (entry d t a r) _ h n q

@@ -9,8 +9,7 @@ use Rattle.jx_base.specs.declared.states.AnswerKind.TheVariants as kind
 use Rattle.jx_base.specs.Basics.{is_number}
 use Rattle.jx_base.specs.Histories.{Past}
 use Rattle.jx_model.specs.Portals.{owner_of}
-use Rattle.jx_model.specs.Holding.{carried}
-use Rattle.jx_model.specs.Tables.{answered_at, CallRecord}
+use Rattle.jx_model.specs.Tables.{CallRecord}
 
 -- an entry by its parts
 abbrev pub entry : ℕ → ℕ → Act → Reply → Entry

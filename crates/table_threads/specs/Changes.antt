@@ -1,5 +1,5 @@
 -- Lists of which each item changes by its number, or one alone.
-use Rattle.std.specs.Prelude.{ℕ, suc, zero, ◌+◌, Bool, List, [], ◌∷◌, set}
+use Rattle.std.specs.Prelude.{ℕ, suc, zero, ◌+◌, Bool, List, [], ◌∷◌}
 
 -- a flag that is set
 abbrev pub is_set : Bool → Bool

@@ -1,5 +1,5 @@
 -- What an entry makes of the records of domains and threads.
-use Rattle.std.specs.Prelude.{ℕ, ◌+◌, Bool, true, false, List, [], ◌∷◌, ◌++◌, map, Option, Some, None, suc, zero}
+use Rattle.std.specs.Prelude.{ℕ, Bool, true, false, List, [], ◌∷◌, ◌++◌, map, Option, Some, None, suc, zero}
 use Rattle.jx_base.specs.declared.act.Entry.{Entry}
 use Rattle.jx_base.specs.declared.states.DomainState.{DomainState}
 use Rattle.jx_base.specs.declared.program.System.{System}
@@ -18,11 +18,16 @@ use Rattle.jx_base.specs.declared.states.ThreadState.{ThreadState}
 use Rattle.jx_base.specs.declared.states.ThreadState.TheVariants as thread
 use Rattle.jx_model.specs.Threads.{served_after, state_after, serving_state}
 use Rattle.table_threads.specs.Changes.{changed_at}
-use Rattle.table_threads.specs.CallChanges.{entry}
 
 -- the record of the domain that an entry makes
 abbrev pub born : System → Entry → DomainState
-born s e = record { template = unwrap_or (named_template s e.act) 0; creator = e.domain; at = reply_granule e.reply; ended = None }
+born s e =
+    record {
+      template = unwrap_or (named_template s e.act) 0;
+      creator = e.domain;
+      at = reply_granule e.reply;
+      ended = None;
+    }
 
 -- what a thread does where nothing made it stop
 abbrev pub runs_as : Option ServiceId → Option CallId → ThreadState
