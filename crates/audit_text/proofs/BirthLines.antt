@@ -13,9 +13,9 @@ use Rattle.audit_model.specs.Audit.{template_text}
 use Rattle.jx_model.specs.Domains.{domains_made, birth_of, is_birth, named_template, template_of, creator_of, end_reason}
 use Rattle.audit_model.specs.AuditText.{domain_line, standing_words}
 use Rattle.jx_base.proofs.NthEntries.{count_new, count_same}
-use Rattle.audit_text.specs.Rendering.{IsBuiltEntry, made_template, domain_text, standing_text, whole_line}
+use Rattle.audit_text.specs.Rendering.{IsSupportedEntry, made_template, domain_text, standing_text, whole_line}
 use Rattle.audit_text.proofs.Births.{each_birth, each_birth-new, each_birth-same, same_up_to}
-use Rattle.audit_text.proofs.Built.{birth_created, named_template-made}
+use Rattle.audit_text.proofs.SupportedActs.{birth_created, named_template-made}
 use Rattle.std.specs.Option.{option_and_then, option_map, unwrap_or}
 
 -- what f gives of the number, the template and the creator of each domain that was made, by its birth
@@ -45,7 +45,7 @@ Agree f g = (d t : ℕ) (e : Entry) → made_template e.act e.reply ≡ Some t �
 
 module _ {X : Type 0} (f : ℕ → ℕ → ℕ → List X) (g : ℕ → Option Entry → List X) (agree : Agree f g) where
   -- one entry more
-  born_step : (e : Entry) (entries : List Entry) (past : Past) (o : Option ℕ) → IsBuiltEntry e → made_template e.act e.reply ≡ o →
+  born_step : (e : Entry) (entries : List Entry) (past : Past) (o : Option ℕ) → IsSupportedEntry e → made_template e.act e.reply ≡ o →
       each_birth g past ++ born f (domains_made past) (e ∷ entries) ≡ each_birth g (e ∷ past) ++ born f (domains_made (e ∷ past)) entries
   unfolding born with_birth
   born_step e entries past None h is =
@@ -57,7 +57,7 @@ module _ {X : Type 0} (f : ℕ → ℕ → ℕ → List X) (g : ℕ → Option E
       (sym (append_assoc (each_birth g past) (f (domains_made past + 1) t e.domain.0) (born f (domains_made past + 1) entries)))
 
   -- what a past gives, and what the entries after it give
-  born_after : (entries : List Entry) (past : Past) → AllByRecursion IsBuiltEntry entries →
+  born_after : (entries : List Entry) (past : Past) → AllByRecursion IsSupportedEntry entries →
       each_birth g past ++ born f (domains_made past) entries ≡ each_birth g (reverse entries ++ past)
   unfolding born
   born_after [] past h = append-nil _
@@ -66,7 +66,7 @@ module _ {X : Type 0} (f : ℕ → ℕ → ℕ → List X) (g : ℕ → Option E
       ∙ born_after entries (e ∷ past) h.1
       ∙ ap (each_birth g) (sym (turned e entries past))
 
-  pub born-births : (entries : List Entry) → AllByRecursion IsBuiltEntry entries → born f 0 entries ≡ each_birth g (reverse entries)
+  pub born-births : (entries : List Entry) → AllByRecursion IsSupportedEntry entries → born f 0 entries ≡ each_birth g (reverse entries)
   unfolding each_birth up_to Rattle.jx_base.specs.Histories.count_where
   born-births entries h = born_after entries [] h ∙ ap (each_birth g) (append-nil (reverse entries))
 
@@ -109,7 +109,7 @@ unfolding domain_line of_birth line_after whole_line domain_text standing_text t
 domain_line-birth s past d =
     joined_words (decimal d) (template_text s (unwrap_or (template_of s past d) 0) ∷ codes "by" ∷ decimal (unwrap_or (creator_of past d) 0) ∷ []) (standing_words (end_reason past d)) (codes "\n")
 
-pub domain_lines-born : (s : System) (entries : List Entry) → AllByRecursion IsBuiltEntry entries →
+pub domain_lines-born : (s : System) (entries : List Entry) → AllByRecursion IsSupportedEntry entries →
     born (line_after s (reverse entries)) 0 entries ≡ flat_map (domain_line s (reverse entries)) (up_to (domains_made (reverse entries)))
 unfolding each_birth
 domain_lines-born s entries h =

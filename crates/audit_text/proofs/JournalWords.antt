@@ -13,9 +13,9 @@ use Rattle.jx_base.specs.Histories.{Past}
 use Rattle.jx_model.specs.Journal.{words_of, entry_words, act_words, reply_words, is_full}
 use Rattle.jx_model.specs.Permits.{acting_thread, zero_may, zero_may_now, domains_wait, domain_thread, is_ending, is_halt, is_over, next_boot}
 use Rattle.jx_model.specs.Legal.{IsNext, IsAdmittedPast}
-use Rattle.jx_model.specs.WellMade.{IsWellMade, IsBuilt, is_built}
+use Rattle.jx_model.specs.WellMade.{IsWellMade, IsSupported, is_supported}
 use Rattle.audit_model.specs.AuditText.{before_last}
-use Rattle.audit_text.specs.Rendering.{IsBuiltEntry, IsBuiltReply}
+use Rattle.audit_text.specs.Rendering.{IsSupportedEntry, IsSupportedReply}
 use Rattle.audit_text.proofs.Sums.{entry_sum}
 
 pub words-sum : (past : Past) → words_of past ≡ entry_sum entry_words past
@@ -56,15 +56,15 @@ before_halt : (e : Entry) (past : Past) → is_over (e ∷ past) ≡ false → i
 unfolding is_over
 before_halt e past h = no_ending e.act _ h
 
-no_reply_words : (r : Reply) → IsBuiltReply r → reply_words r ≡ 0
+no_reply_words : (r : Reply) → IsSupportedReply r → reply_words r ≡ 0
 unfolding reply_words
 no_reply_words reply.Done k = refl
 no_reply_words (reply.Domain d g) k = refl
 no_reply_words (reply.Refused r) k = refl
 no_reply_words _ k = absurd k
 
-act_words_below : (s : System) (past : Past) (a : Act) (r : Reply) → IsBuilt a → IsBuiltReply r → IsWellMade s past a → 8 + act_words a + reply_words r ≤ 4104
-unfolding is_built act_words text_limit
+act_words_below : (s : System) (past : Past) (a : Act) (r : Reply) → IsSupported a → IsSupportedReply r → IsWellMade s past a → 8 + act_words a + reply_words r ≤ 4104
+unfolding is_supported act_words text_limit
 act_words_below s past (act.Print text) r h k well_made = omega (arith, no_reply_words r k, well_made.short)
 act_words_below s past (act.Create t) r h k well_made = omega (arith, no_reply_words r k)
 act_words_below s past (act.Go t) r h k well_made = omega (arith, no_reply_words r k)
@@ -77,41 +77,41 @@ act_words_below s past act.Halt r h k well_made = omega (arith, no_reply_words r
 act_words_below s past _ r h k well_made = absurd (cc)
 
 -- an entry costs at most what the journal keeps free for one
-entry_below : (s : System) (past : Past) (e : Entry) → IsNext s past e → IsBuiltEntry e → entry_words e ≤ 4104
+entry_below : (s : System) (past : Past) (e : Entry) → IsNext s past e → IsSupportedEntry e → entry_words e ≤ 4104
 unfolding entry_words
 entry_below s past e next h = act_words_below s past e.act e.reply h.act h.reply next.well_made
 
-words_before : (s : System) (past : Past) (e : Entry) (halts : Bool) → is_halt e.act ≡ halts → IsNext s past e → IsAdmittedPast s past → AllByRecursion IsBuiltEntry past → words_of past ≤ journal_limit s
+words_before : (s : System) (past : Past) (e : Entry) (halts : Bool) → is_halt e.act ≡ halts → IsNext s past e → IsAdmittedPast s past → AllByRecursion IsSupportedEntry past → words_of past ≤ journal_limit s
 unfolding words_of is_full entry_limit
-words_before s past e false other next admitted built =
+words_before s past e false other next admitted supported =
     let room : is_full s past ≡ false = room_left s past e.domain.0 e.act e.thread.0 other next.thread in
     grind (arith, nat_tests)
-words_before s [] e true halts next admitted built = omega arith
-words_before s (f ∷ past) e true halts next admitted built =
+words_before s [] e true halts next admitted supported = omega arith
+words_before s (f ∷ past) e true halts next admitted supported =
     let before : is_halt f.act ≡ false = before_halt f past (not_over s (f ∷ past) e.domain.0 e.act e.thread.0 next.thread) in
     let room : is_full s past ≡ false = room_left s past f.domain.0 f.act f.thread.0 before admitted.0.thread in
-    let cost : entry_words f ≤ 4104 = entry_below s past f admitted.0 built.0 in
+    let cost : entry_words f ≤ 4104 = entry_below s past f admitted.0 supported.0 in
     grind (arith, nat_tests)
 
 -- the entries before the last one of an admitted history cost no more words than the journal has
-pub words_small : (s : System) (past : Past) → IsAdmittedPast s past → AllByRecursion IsBuiltEntry past → words_of (before_last past) ≤ journal_limit s
+pub words_small : (s : System) (past : Past) → IsAdmittedPast s past → AllByRecursion IsSupportedEntry past → words_of (before_last past) ≤ journal_limit s
 unfolding before_last words_of
 words_small s [] admitted h = omega arith
 words_small s (e ∷ past) admitted h = words_before s past e (is_halt e.act) refl admitted.0 admitted.1 h.1
 
-words_built : (a : Act) (r : Reply) → IsBuilt a → IsBuiltReply r → ((text : List ℕ) → a ≡ act.Print text → ⊥) → 8 + act_words a + reply_words r ≡ 8
-unfolding is_built act_words
-words_built (act.Create t) r h k other = omega (arith, no_reply_words r k)
-words_built (act.Print text) r h k other = absurd (other text refl)
-words_built (act.EndThread c) r h k other = omega (arith, no_reply_words r k)
-words_built act.Quiet r h k other = omega (arith, no_reply_words r k)
-words_built (act.Go t) r h k other = omega (arith, no_reply_words r k)
-words_built (act.Exit code) r h k other = omega (arith, no_reply_words r k)
-words_built act.Yield r h k other = omega (arith, no_reply_words r k)
-words_built (act.End why) r h k other = omega (arith, no_reply_words r k)
-words_built act.Halt r h k other = omega (arith, no_reply_words r k)
-words_built _ r h k other = absurd (cc)
+words_supported : (a : Act) (r : Reply) → IsSupported a → IsSupportedReply r → ((text : List ℕ) → a ≡ act.Print text → ⊥) → 8 + act_words a + reply_words r ≡ 8
+unfolding is_supported act_words
+words_supported (act.Create t) r h k other = omega (arith, no_reply_words r k)
+words_supported (act.Print text) r h k other = absurd (other text refl)
+words_supported (act.EndThread c) r h k other = omega (arith, no_reply_words r k)
+words_supported act.Quiet r h k other = omega (arith, no_reply_words r k)
+words_supported (act.Go t) r h k other = omega (arith, no_reply_words r k)
+words_supported (act.Exit code) r h k other = omega (arith, no_reply_words r k)
+words_supported act.Yield r h k other = omega (arith, no_reply_words r k)
+words_supported (act.End why) r h k other = omega (arith, no_reply_words r k)
+words_supported act.Halt r h k other = omega (arith, no_reply_words r k)
+words_supported _ r h k other = absurd (cc)
 
-pub entry_words-plain : (e : Entry) → IsBuiltEntry e → ((text : List ℕ) → e.act ≡ act.Print text → ⊥) → entry_words e ≡ 8
+pub entry_words-plain : (e : Entry) → IsSupportedEntry e → ((text : List ℕ) → e.act ≡ act.Print text → ⊥) → entry_words e ≡ 8
 unfolding entry_words
-entry_words-plain e h other = words_built e.act e.reply h.act h.reply other
+entry_words-plain e h other = words_supported e.act e.reply h.act h.reply other

@@ -7,10 +7,10 @@ use Rattle.jx_base.specs.declared.act.Act.TheVariants as act
 use Rattle.jx_base.specs.declared.act.Entry.{Entry}
 use Rattle.std.proofs.lemmas.List.{reverse-append}
 use Rattle.jx_model.specs.Journal.{words_of}
-use Rattle.jx_model.specs.WellMade.{IsBuilt, is_built}
+use Rattle.jx_model.specs.WellMade.{IsSupported, is_supported}
 use Rattle.audit_model.specs.AuditText.{before_last, end_word, end_word_of}
-use Rattle.audit_text.specs.Rendering.{IsBuiltEntry}
-use Rattle.audit_text.proofs.Built.{all_of_append}
+use Rattle.audit_text.specs.Rendering.{IsSupportedEntry}
+use Rattle.audit_text.proofs.SupportedActs.{all_of_append}
 
 pub before_last-reverse : (entries front : List Entry) (last : Entry) → entries ≡ front ++ (last ∷ []) → before_last (reverse entries) ≡ reverse front
 unfolding before_last
@@ -30,8 +30,8 @@ pub end_word-last : (entries front : List Entry) (last : Entry) → entries ≡ 
 unfolding end_word
 end_word-last entries front last is = rw (is, reverse-append front (last ∷ [])) refl
 
-pub end_word-open : (a : Act) → IsBuilt a → (a ≡ act.Quiet → ⊥) → (a ≡ act.Halt → ⊥) → end_word_of a ≡ codes "open"
-unfolding is_built end_word_of
+pub end_word-open : (a : Act) → IsSupported a → (a ≡ act.Quiet → ⊥) → (a ≡ act.Halt → ⊥) → end_word_of a ≡ codes "open"
+unfolding is_supported end_word_of
 end_word-open (act.Create t) h other more = refl
 end_word-open (act.Print text) h other more = refl
 end_word-open (act.EndThread c) h other more = refl
@@ -43,5 +43,5 @@ end_word-open act.Yield h other more = refl
 end_word-open (act.End why) h other more = refl
 end_word-open _ h other more = absurd (cc)
 
-pub front_built : (entries front : List Entry) (last : Entry) → entries ≡ front ++ (last ∷ []) → AllByRecursion IsBuiltEntry entries → AllByRecursion IsBuiltEntry front × IsBuiltEntry last
-front_built entries front last is h = let parts = all_of_append IsBuiltEntry front (last ∷ []) (rw is at h) in (parts.0, parts.1.0)
+pub front_supported : (entries front : List Entry) (last : Entry) → entries ≡ front ++ (last ∷ []) → AllByRecursion IsSupportedEntry entries → AllByRecursion IsSupportedEntry front × IsSupportedEntry last
+front_supported entries front last is h = let parts = all_of_append IsSupportedEntry front (last ∷ []) (rw is at h) in (parts.0, parts.1.0)

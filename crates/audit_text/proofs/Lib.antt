@@ -1,10 +1,9 @@
-pub mod Writing
-pub mod Lines
+pub mod EntryLines
 pub mod Births
-pub mod Built
+pub mod SupportedActs
 pub mod BirthLines
 pub mod Sums
 pub mod UsedGranules
 pub mod JournalWords
 pub mod LastEntry
-pub mod Parts
+pub mod AuditParts

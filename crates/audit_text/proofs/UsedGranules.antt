@@ -19,12 +19,12 @@ use Rattle.jx_model.specs.Domains.{domains_made, birth_of, is_birth, makes_domai
 use Rattle.jx_model.specs.Granules.{Run, heap_granules, heap_of_template, heap_run, run_if, heap_runs, extent_runs, used_runs, run_granules, used_granules, first_fit}
 use Rattle.jx_model.specs.Replies.{reply_to, new_domain, ◌refuses◌else◌, given_or}
 use Rattle.jx_model.specs.Legal.{IsNext, IsAdmittedPast}
-use Rattle.jx_model.specs.WellMade.{IsBuilt, is_built}
+use Rattle.jx_model.specs.WellMade.{IsSupported, is_supported}
 use Rattle.jx_base.proofs.NthEntries.{count_new, count_same}
-use Rattle.audit_text.specs.Rendering.{IsBuiltEntry, made_template, total, where_live}
+use Rattle.audit_text.specs.Rendering.{IsSupportedEntry, made_template, total, where_live}
 use Rattle.audit_text.proofs.Births.{each_birth, same_up_to}
 use Rattle.audit_text.proofs.BirthLines.{Agree, born, born-births}
-use Rattle.audit_text.proofs.Built.{birth_created, named_template-made, no_extents, all_reverse}
+use Rattle.audit_text.proofs.SupportedActs.{birth_created, named_template-made, no_extents, all_reverse}
 use Rattle.audit_text.proofs.Sums.{entry_sum, entry_sum-reverse}
 use Rattle.std.specs.Option.{option_and_then, option_map, unwrap_or}
 
@@ -75,17 +75,17 @@ live_granules s past d l u =
     let made : (nat_lt 0 d && nat_le d (domains_made past)) ≡ true = rw (low, high) refl in
     used_if s past d (end_reason past d) _ _ _ made
 
-used-heaps : (s : System) (past : Past) → AllByRecursion IsBuiltEntry past → used_granules s past ≡ run_granules (heap_runs s past)
+used-heaps : (s : System) (past : Past) → AllByRecursion IsSupportedEntry past → used_granules s past ≡ run_granules (heap_runs s past)
 unfolding used_granules used_runs extent_runs up_to
 used-heaps s past h = rw (no_extents past h, append-nil) refl
 
 -- the granules in use are those of the heaps that were made for domains that have not ended
-pub used-born : (s : System) (entries : List Entry) → AllByRecursion IsBuiltEntry entries →
+pub used-born : (s : System) (entries : List Entry) → AllByRecursion IsSupportedEntry entries →
     used_granules s (reverse entries) ≡ total (born (granules_after s (reverse entries)) 0 entries)
 unfolding heap_runs each_birth
 used-born s entries h =
     let past = reverse entries in
-    used-heaps s past (all_reverse IsBuiltEntry entries h)
+    used-heaps s past (all_reverse IsSupportedEntry entries h)
     ∙ run_granules-flat (run_if (is_live past) (heap_run s past)) (up_to (domains_made past))
     ∙ ap total (same_up_to (λ d. granules_if (run_if (is_live past) (heap_run s past) d)) (λ d. birth_granules s past d (birth_of past d)) (domains_made past) (live_granules s past))
     ∙ ap total (sym (born-births (granules_after s past) (birth_granules s past) (granules_agree s past) entries h))
@@ -105,8 +105,8 @@ unfolding makes_domain ◌refuses◌else◌ given_or
 create_below true o n t h = cc
 create_below false o n t h = refl
 
-birth_below : (s : System) (past : Past) (d : ℕ) (a : Act) → IsBuilt a → makes_domain a (reply_to s past d a) ≡ true → nat_le (domain_limit s) (domains_made past) ≡ false
-unfolding is_built reply_to new_domain makes_domain
+birth_below : (s : System) (past : Past) (d : ℕ) (a : Act) → IsSupported a → makes_domain a (reply_to s past d a) ≡ true → nat_le (domain_limit s) (domains_made past) ≡ false
+unfolding is_supported reply_to new_domain makes_domain
 birth_below s past d (act.Create t) h one = create_below (nat_le (domain_limit s) (domains_made past)) (first_fit s past (heap_granules s t)) _ t one
 birth_below s past d (act.Print text) h one = absurd (cc)
 birth_below s past d (act.EndThread c) h one = absurd (cc)
@@ -118,18 +118,18 @@ birth_below s past d (act.End why) h one = absurd (cc)
 birth_below s past d act.Halt h one = absurd (cc)
 birth_below s past d _ h one = absurd (cc)
 
-birth_small : (s : System) (past : Past) (e : Entry) → IsNext s past e → IsBuiltEntry e → is_birth e ≡ true → domains_made past < 64
+birth_small : (s : System) (past : Past) (e : Entry) → IsNext s past e → IsSupportedEntry e → is_birth e ≡ true → domains_made past < 64
 unfolding is_birth domain_limit
 birth_small s past e next h one =
     let low : nat_le 64 (domains_made past) ≡ false = birth_below s past e.domain.0 e.act h.act (ap (makes_domain e.act) (sym next.reply) ∙ one) in
     grind (arith, nat_tests)
 
-made_step : (s : System) (past : Past) (e : Entry) (b : Bool) → IsNext s past e → IsBuiltEntry e → is_birth e ≡ b → domains_made past ≤ 64 → domains_made (e ∷ past) ≤ 64
+made_step : (s : System) (past : Past) (e : Entry) (b : Bool) → IsNext s past e → IsSupportedEntry e → is_birth e ≡ b → domains_made past ≤ 64 → domains_made (e ∷ past) ≤ 64
 made_step s past e true next h one few = omega (arith, count_new is_birth e past one, birth_small s past e next h one)
 made_step s past e false next h none few = omega (arith, count_same is_birth e past none)
 
 -- an admitted past has at most 64 domains
-pub made_few : (s : System) (past : Past) → IsAdmittedPast s past → AllByRecursion IsBuiltEntry past → domains_made past ≤ 64
+pub made_few : (s : System) (past : Past) → IsAdmittedPast s past → AllByRecursion IsSupportedEntry past → domains_made past ≤ 64
 unfolding Rattle.jx_base.specs.Histories.count_where
 made_few s [] admitted h = omega arith
 made_few s (e ∷ past) admitted h = made_step s past e (is_birth e) admitted.0 h.0 refl (made_few s past admitted.1 h.1)
@@ -143,7 +143,7 @@ one_made (Some t) = 1
 unfoldable pub birth_count : Entry → ℕ
 birth_count e = one_made (made_template e.act e.reply)
 
-births_step : (e : Entry) (past : Past) (o : Option ℕ) → IsBuiltEntry e → made_template e.act e.reply ≡ o → domains_made (e ∷ past) ≡ one_made o + domains_made past
+births_step : (e : Entry) (past : Past) (o : Option ℕ) → IsSupportedEntry e → made_template e.act e.reply ≡ o → domains_made (e ∷ past) ≡ one_made o + domains_made past
 unfolding one_made
 births_step e past None h is =
     let none : is_birth e ≡ false = birth_created e h ∙ ap is_some is in
@@ -152,16 +152,16 @@ births_step e past (Some t) h is =
     let one : is_birth e ≡ true = birth_created e h ∙ ap is_some is in
     omega (arith, count_new is_birth e past one)
 
-births-sum : (past : Past) → AllByRecursion IsBuiltEntry past → domains_made past ≡ entry_sum birth_count past
+births-sum : (past : Past) → AllByRecursion IsSupportedEntry past → domains_made past ≡ entry_sum birth_count past
 unfolding entry_sum birth_count Rattle.jx_base.specs.Histories.count_where
 births-sum [] h = refl
 births-sum (e ∷ past) h = births_step e past (made_template e.act e.reply) h.0 refl ∙ ap (λ n. one_made (made_template e.act e.reply) + n) (births-sum past h.1)
 
 -- of the entries of an admitted history, at most 64 make a domain
-pub births_few : (s : System) (entries : List Entry) → IsAdmittedPast s (reverse entries) → AllByRecursion IsBuiltEntry entries → entry_sum birth_count entries ≤ 64
+pub births_few : (s : System) (entries : List Entry) → IsAdmittedPast s (reverse entries) → AllByRecursion IsSupportedEntry entries → entry_sum birth_count entries ≤ 64
 births_few s entries admitted h =
-    let built : AllByRecursion IsBuiltEntry (reverse entries) = all_reverse IsBuiltEntry entries h in
-    omega (arith, made_few s (reverse entries) admitted built, births-sum (reverse entries) built, entry_sum-reverse birth_count entries)
+    let supported : AllByRecursion IsSupportedEntry (reverse entries) = all_reverse IsSupportedEntry entries h in
+    omega (arith, made_few s (reverse entries) admitted supported, births-sum (reverse entries) supported, entry_sum-reverse birth_count entries)
 
 pub birth_count-Some : (e : Entry) (t : ℕ) → made_template e.act e.reply ≡ Some t → birth_count e ≡ 1
 unfolding birth_count one_made

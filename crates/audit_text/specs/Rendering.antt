@@ -13,19 +13,19 @@ use Rattle.jx_base.specs.declared.program.System.{System}
 use Rattle.jx_base.specs.Texts.{after_space, spaced}
 use Rattle.audit_model.specs.Audit.{template_text, act_word, act_operands, reply_word, reply_operands}
 use Rattle.audit_model.specs.AuditText.{standing_words}
-use Rattle.jx_model.specs.WellMade.{IsBuilt}
+use Rattle.jx_model.specs.WellMade.{IsSupported}
 
 -- the reply is one to an act with code
-abbrev pub IsBuiltReply : Reply → Type 0
-IsBuiltReply reply.Done = Unit {0}
-IsBuiltReply (reply.Domain d g) = Unit {0}
-IsBuiltReply (reply.Refused r) = Unit {0}
-IsBuiltReply _ = ⊥
+abbrev pub IsSupportedReply : Reply → Type 0
+IsSupportedReply reply.Done = Unit {0}
+IsSupportedReply (reply.Domain d g) = Unit {0}
+IsSupportedReply (reply.Refused r) = Unit {0}
+IsSupportedReply _ = ⊥
 
 -- the act has code, and the reply is one to an act with code
-pub record IsBuiltEntry (e : Entry) : Type 0 where
-  pub act : IsBuilt e.act
-  pub reply : IsBuiltReply e.reply
+pub record IsSupportedEntry (e : Entry) : Type 0 where
+  pub act : IsSupported e.act
+  pub reply : IsSupportedReply e.reply
 
 -- the words of an act, each behind a space
 unfoldable pub spaced_act : System → Act → List ℕ
@@ -40,8 +40,8 @@ unfoldable pub actor_text : ℕ → Entry → List ℕ
 actor_text n e = spaced (decimal n ∷ decimal e.domain.0 ∷ decimal e.thread.0 ∷ [])
 
 -- each act of the history has code
-abbrev pub HasBuiltActs : History → Type 0
-HasBuiltActs h = AllByRecursion (λ e. IsBuilt e.act) h.entries
+abbrev pub HasSupportedActs : History → Type 0
+HasSupportedActs h = AllByRecursion (λ e. IsSupported e.act) h.entries
 
 -- the template of the domain that a create made
 unfoldable pub made_template : Act → Reply → Option ℕ

@@ -4,33 +4,33 @@ ghost use Rattle.std.specs.List.{AllByRecursion};
 ghost use Rattle.jx_base.specs.Puts.{Puts};
 ghost use Rattle.audit_model.specs.AuditText.{audit_text, lines_after, state_lines};
 ghost use Rattle.jx_model.specs.Legal.{IsAdmitted, IsAdmittedPast};
-ghost use Rattle.audit_text.specs.Rendering.{HasBuiltActs, IsBuiltEntry};
-ghost use Rattle.audit_text.specs.Writes.{Writes, output};
+ghost use Rattle.audit_text.specs.Rendering.{HasSupportedActs, IsSupportedEntry};
+ghost use Rattle.page_text.specs.Writes.{Writes};
 
 use crate::console::write_console;
 use crate::domains::write_domains;
 use crate::entries::write_entries;
-use crate::page::Page;
-use crate::pieces::{Piece, write_line};
 use crate::totals::write_totals;
 use jx_base::{Entry, Failed, History, Sink, System};
+use page_text::{Page, Piece, write_line};
 
-/// Writes the lines of the domains and of the unanswered calls.
+// Writes the lines of the domains and of the unanswered calls.
 fn write_state<K: Sink>(
     system: &System,
     entries: &[Entry],
     page: &mut Page,
     sink: &mut K,
 ) -> Result<(), Failed>
-    requires { AllByRecursion IsBuiltEntry entries.now }
-    ensures { Writes (state_lines system.now (reverse entries.now)) (output (K.told sink.old) page.old (K.faults sink.old)) (output (K.told sink.new) page.new (K.faults sink.new)) result }
+    requires { AllByRecursion IsSupportedEntry entries.now }
+    ensures { Writes (state_lines system.now (reverse entries.now))
+        (page.old, K.state sink.old) (page.new, K.state sink.new) result }
 {
     write_line(&[Piece::Plain("domains")], page, sink)?;
     write_domains(system, entries, page, sink)?;
     write_line(&[Piece::Plain("calls")], page, sink)
 }
 
-/// Writes the lines behind those of the entries.
+// Writes the lines behind those of the entries.
 fn write_after<K: Sink>(
     system: &System,
     entries: &[Entry],
@@ -38,8 +38,9 @@ fn write_after<K: Sink>(
     sink: &mut K,
 ) -> Result<(), Failed>
     requires admitted { IsAdmittedPast system.now (reverse entries.now) }
-    requires built { AllByRecursion IsBuiltEntry entries.now }
-    ensures { Writes (lines_after system.now entries.now (reverse entries.now)) (output (K.told sink.old) page.old (K.faults sink.old)) (output (K.told sink.new) page.new (K.faults sink.new)) result }
+    requires supported { AllByRecursion IsSupportedEntry entries.now }
+    ensures { Writes (lines_after system.now entries.now (reverse entries.now))
+        (page.old, K.state sink.old) (page.new, K.state sink.new) result }
 {
     write_line(&[Piece::Plain("console")], page, sink)?;
     write_console(entries, page, sink)?;
@@ -54,8 +55,9 @@ fn write_audit<K: Sink>(
     sink: &mut K,
 ) -> Result<(), Failed>
     requires admitted { IsAdmitted system.now history.now }
-    requires built { HasBuiltActs history.now }
-    ensures { Writes (audit_text system.now history.now) (output (K.told sink.old) page.old (K.faults sink.old)) (output (K.told sink.new) page.new (K.faults sink.new)) result }
+    requires supported { HasSupportedActs history.now }
+    ensures { Writes (audit_text system.now history.now)
+        (page.old, K.state sink.old) (page.new, K.state sink.new) result }
 {
     let entries = history.entries.as_slice();
     write_line(&[Piece::Plain("jx audit 1")], page, sink)?;
@@ -66,8 +68,8 @@ fn write_audit<K: Sink>(
 /// Puts the audit of the history. It takes no memory.
 pub fn render<K: Sink>(system: &System, history: &History, sink: &mut K) -> Result<(), Failed>
     requires admitted { IsAdmitted system.now history.now }
-    requires built { HasBuiltActs history.now }
-    ensures { Puts (audit_text system.now history.now) (K.told sink.old) (K.faults sink.old) (K.told sink.new) (K.faults sink.new) result }
+    requires supported { HasSupportedActs history.now }
+    ensures { Puts (audit_text system.now history.now) (K.state sink.old) (K.state sink.new) result }
 {
     let mut page = Page::new();
     write_audit(system, history, &mut page, sink)?;

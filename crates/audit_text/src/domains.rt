@@ -4,13 +4,12 @@ ghost use Rattle.std.specs.List.{AllByRecursion, flat_map};
 ghost use Rattle.jx_base.specs.Basics.{up_to};
 ghost use Rattle.jx_model.specs.Domains.{domains_made, ended_by, reason_for, end_reason};
 ghost use Rattle.audit_model.specs.AuditText.{domain_line};
-ghost use Rattle.audit_text.specs.Rendering.{IsBuiltEntry, made_template, own_reason, standing_text, domain_text, whole_line};
-ghost use Rattle.audit_text.specs.Writes.{Writes, output};
+ghost use Rattle.audit_text.specs.Rendering.{IsSupportedEntry, made_template, own_reason, standing_text, domain_text, whole_line};
+ghost use Rattle.page_text.specs.Writes.{Writes};
 
 use crate::entries::template_name;
-use crate::page::Page;
-use crate::pieces::{Piece, write_behind, write_words};
 use jx_base::{Act, DomainId, Entry, Failed, Reason, Reply, Sink, System};
+use page_text::{Page, Piece, write_behind, write_words};
 
 /// The template of the domain that the entry made.
 #[tactic(auto, unfolding(crate::specs::Rendering::made_template))]
@@ -23,9 +22,9 @@ pub fn made_template(entry: &Entry) -> Option<u32>
     }
 }
 
-/// Why the domain ends by the entry, if it does.
+// Why the domain ends by the entry, if it does.
 fn reason_of(entry: &Entry, domain: u64) -> Option<Reason>
-    requires { IsBuiltEntry entry.now }
+    requires { IsSupportedEntry entry.now }
     ensures { result ≡ reason_for (ended_by entry.now) domain }
 {
     if u64::from(entry.domain.0) == domain {
@@ -35,7 +34,7 @@ fn reason_of(entry: &Entry, domain: u64) -> Option<Reason>
     }
 }
 
-/// Why the domain that acts ends by its act, if it does.
+// Why the domain that acts ends by its act, if it does.
 #[tactic(auto, unfolding(crate::specs::Rendering::own_reason))]
 fn own_reason(act: &Act) -> Option<Reason>
     ensures { result ≡ own_reason act.now }
@@ -49,7 +48,7 @@ fn own_reason(act: &Act) -> Option<Reason>
 
 /// Why the domain ended, if it did.
 pub fn end_reason(entries: &[Entry], domain: u64) -> Option<Reason>
-    requires { AllByRecursion IsBuiltEntry entries.now }
+    requires { AllByRecursion IsSupportedEntry entries.now }
     ensures { result ≡ end_reason (reverse entries.now) domain }
 {
     let mut found = None;
@@ -61,10 +60,10 @@ pub fn end_reason(entries: &[Entry], domain: u64) -> Option<Reason>
     found
 }
 
-/// Writes how a domain stands, each word behind a space.
-#[tactic(auto, unfolding(crate::specs::Rendering::standing_text, crate::specs::Pieces::piece_text, audit_model::specs::AuditText::standing_words, audit_model::specs::Audit::reason_words))]
+// Writes how a domain stands, each word behind a space.
+#[tactic(auto, unfolding(crate::specs::Rendering::standing_text, page_text::specs::Pieces::piece_text, audit_model::specs::AuditText::standing_words, audit_model::specs::Audit::reason_words))]
 fn write_standing<K: Sink>(why: Option<Reason>, page: &mut Page, sink: &mut K) -> Result<(), Failed>
-    ensures { Writes (standing_text why) (output (K.told sink.old) page.old (K.faults sink.old)) (output (K.told sink.new) page.new (K.faults sink.new)) result }
+    ensures { Writes (standing_text why) (page.old, K.state sink.old) (page.new, K.state sink.new) result }
 {
     let ended = Piece::Plain("ended");
     match why {
@@ -80,8 +79,8 @@ fn write_standing<K: Sink>(why: Option<Reason>, page: &mut Page, sink: &mut K) -
     }
 }
 
-/// Writes the number, the template and the creator of a domain.
-#[tactic(auto, unfolding(crate::specs::Rendering::domain_text, crate::specs::Pieces::piece_text))]
+// Writes the number, the template and the creator of a domain.
+#[tactic(auto, unfolding(crate::specs::Rendering::domain_text, page_text::specs::Pieces::piece_text))]
 fn write_origin<K: Sink>(
     system: &System,
     domain: u64,
@@ -90,7 +89,8 @@ fn write_origin<K: Sink>(
     page: &mut Page,
     sink: &mut K,
 ) -> Result<(), Failed>
-    ensures { Writes (domain_text system.now domain template creator.0) (output (K.told sink.old) page.old (K.faults sink.old)) (output (K.told sink.new) page.new (K.faults sink.new)) result }
+    ensures { Writes (domain_text system.now domain template creator.0)
+        (page.old, K.state sink.old) (page.new, K.state sink.new) result }
 {
     let name = template_name(system, template);
     write_words(
@@ -105,7 +105,7 @@ fn write_origin<K: Sink>(
     )
 }
 
-/// A domain that an entry made.
+// A domain that an entry made.
 #[derive(Clone, Copy)]
 struct Born {
     domain: u64,
@@ -113,7 +113,7 @@ struct Born {
     creator: DomainId,
 }
 
-/// Writes the line of a domain.
+// Writes the line of a domain.
 #[tactic(auto, unfolding(crate::specs::Rendering::whole_line))]
 fn write_domain<K: Sink>(
     system: &System,
@@ -122,7 +122,8 @@ fn write_domain<K: Sink>(
     page: &mut Page,
     sink: &mut K,
 ) -> Result<(), Failed>
-    ensures { Writes (whole_line system.now born.domain born.template born.creator.0 why) (output (K.told sink.old) page.old (K.faults sink.old)) (output (K.told sink.new) page.new (K.faults sink.new)) result }
+    ensures { Writes (whole_line system.now born.domain born.template born.creator.0 why)
+        (page.old, K.state sink.old) (page.new, K.state sink.new) result }
 {
     write_origin(system, born.domain, born.template, born.creator, page, sink)?;
     write_standing(why, page, sink)?;
@@ -136,8 +137,9 @@ pub fn write_domains<K: Sink>(
     page: &mut Page,
     sink: &mut K,
 ) -> Result<(), Failed>
-    requires { AllByRecursion IsBuiltEntry entries.now }
-    ensures { Writes (flat_map (domain_line system.now (reverse entries.now)) (up_to (domains_made (reverse entries.now)))) (output (K.told sink.old) page.old (K.faults sink.old)) (output (K.told sink.new) page.new (K.faults sink.new)) result }
+    requires { AllByRecursion IsSupportedEntry entries.now }
+    ensures { Writes (flat_map (domain_line system.now (reverse entries.now)) (up_to (domains_made (reverse entries.now))))
+        (page.old, K.state sink.old) (page.new, K.state sink.new) result }
 {
     let mut domains: u64 = 0;
     for entry in entries {

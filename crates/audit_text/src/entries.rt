@@ -2,16 +2,15 @@
 ghost use Rattle.std.specs.Prelude.{◌≡◌, ◌<◌, ◌^◌, ◌+◌, length};
 ghost use Rattle.audit_model.specs.Audit.{template_text, class_text, refusal_word};
 ghost use Rattle.audit_model.specs.AuditText.{entry_line, entry_lines};
-ghost use Rattle.jx_model.specs.WellMade.{IsBuilt};
-ghost use Rattle.audit_text.specs.Rendering.{IsBuiltReply, IsBuiltEntry, actor_text, spaced_act, spaced_reply};
-ghost use Rattle.audit_text.specs.Writes.{Writes, output};
+ghost use Rattle.jx_model.specs.WellMade.{IsSupported};
+ghost use Rattle.audit_text.specs.Rendering.{IsSupportedReply, IsSupportedEntry, actor_text, spaced_act, spaced_reply};
+ghost use Rattle.page_text.specs.Writes.{Writes};
 ghost use Rattle.std.specs.Prelude.{codes};
 ghost use Rattle.std.specs.List.{AllByRecursion};
 ghost use Rattle.jx_base.specs.Texts.{quoted};
 
-use crate::page::Page;
-use crate::pieces::{Piece, write_behind, write_words};
 use jx_base::{Act, ClassId, Entry, Failed, Reason, Refusal, Reply, Sink, System};
+use page_text::{Page, Piece, write_behind, write_words};
 
 /// The name of the template, or none where there is no such.
 #[tactic(auto, unfolding(audit_model::specs::Audit::template_text, program_model::specs::Lookup::template_at))]
@@ -45,7 +44,7 @@ fn refusal_word(refusal: Refusal) -> &'static str
     }
 }
 
-/// The name of the class, or none where there is no such.
+// The name of the class, or none where there is no such.
 #[tactic(auto, unfolding(audit_model::specs::Audit::class_text, program_model::specs::Lookup::class_at))]
 fn class_name(system: &System, class: ClassId) -> &[u16]
     ensures { quoted result.now ≡ class_text system.now class.0 }
@@ -56,14 +55,15 @@ fn class_name(system: &System, class: ClassId) -> &[u16]
     }
 }
 
-#[tactic(auto, unfolding(crate::specs::Rendering::spaced_act, crate::specs::Pieces::piece_text, audit_model::specs::Audit::act_word, audit_model::specs::Audit::act_operands, audit_model::specs::Audit::exception_words))]
+#[tactic(auto, unfolding(crate::specs::Rendering::spaced_act, page_text::specs::Pieces::piece_text, audit_model::specs::Audit::act_word, audit_model::specs::Audit::act_operands, audit_model::specs::Audit::exception_words))]
 fn write_end_thread<K: Sink>(
     system: &System,
     exception: Option<ClassId>,
     page: &mut Page,
     sink: &mut K,
 ) -> Result<(), Failed>
-    ensures { Writes (spaced_act system.now (Act.EndThread exception)) (output (K.told sink.old) page.old (K.faults sink.old)) (output (K.told sink.new) page.new (K.faults sink.new)) result }
+    ensures { Writes (spaced_act system.now (Act.EndThread exception))
+        (page.old, K.state sink.old) (page.new, K.state sink.new) result }
 {
     match exception {
         None => write_behind(&[Piece::Plain("end-thread")], page, sink),
@@ -78,14 +78,15 @@ fn write_end_thread<K: Sink>(
     }
 }
 
-#[tactic(auto, unfolding(crate::specs::Rendering::spaced_act, crate::specs::Pieces::piece_text, audit_model::specs::Audit::act_word, audit_model::specs::Audit::act_operands, audit_model::specs::Audit::reason_words))]
+#[tactic(auto, unfolding(crate::specs::Rendering::spaced_act, page_text::specs::Pieces::piece_text, audit_model::specs::Audit::act_word, audit_model::specs::Audit::act_operands, audit_model::specs::Audit::reason_words))]
 fn write_end<K: Sink>(
     system: &System,
     why: Reason,
     page: &mut Page,
     sink: &mut K,
 ) -> Result<(), Failed>
-    ensures { Writes (spaced_act system.now (Act.End why)) (output (K.told sink.old) page.old (K.faults sink.old)) (output (K.told sink.new) page.new (K.faults sink.new)) result }
+    ensures { Writes (spaced_act system.now (Act.End why))
+        (page.old, K.state sink.old) (page.new, K.state sink.new) result }
 {
     let end = Piece::Plain("end");
     match why {
@@ -100,16 +101,17 @@ fn write_end<K: Sink>(
     }
 }
 
-/// Writes the words of the act, each behind a space.
-#[tactic(auto, unfolding(crate::specs::Rendering::spaced_act, crate::specs::Pieces::piece_text, audit_model::specs::Audit::act_word, audit_model::specs::Audit::act_operands, jx_model::specs::WellMade::is_built))]
+// Writes the words of the act, each behind a space.
+#[tactic(auto, unfolding(crate::specs::Rendering::spaced_act, page_text::specs::Pieces::piece_text, audit_model::specs::Audit::act_word, audit_model::specs::Audit::act_operands, jx_model::specs::WellMade::is_supported))]
 fn write_act<K: Sink>(
     system: &System,
     act: &Act,
     page: &mut Page,
     sink: &mut K,
 ) -> Result<(), Failed>
-    requires { IsBuilt act.now }
-    ensures { Writes (spaced_act system.now act.now) (output (K.told sink.old) page.old (K.faults sink.old)) (output (K.told sink.new) page.new (K.faults sink.new)) result }
+    requires { IsSupported act.now }
+    ensures { Writes (spaced_act system.now act.now)
+        (page.old, K.state sink.old) (page.new, K.state sink.new) result }
 {
     match act {
         Act::Create(template) => {
@@ -134,16 +136,17 @@ fn write_act<K: Sink>(
     }
 }
 
-/// Writes the words of the reply, each behind a space.
-#[tactic(auto, unfolding(crate::specs::Rendering::spaced_reply, crate::specs::Pieces::piece_text, audit_model::specs::Audit::reply_word, audit_model::specs::Audit::reply_operands))]
+// Writes the words of the reply, each behind a space.
+#[tactic(auto, unfolding(crate::specs::Rendering::spaced_reply, page_text::specs::Pieces::piece_text, audit_model::specs::Audit::reply_word, audit_model::specs::Audit::reply_operands))]
 fn write_reply<K: Sink>(
     system: &System,
     reply: &Reply,
     page: &mut Page,
     sink: &mut K,
 ) -> Result<(), Failed>
-    requires { IsBuiltReply reply.now }
-    ensures { Writes (spaced_reply system.now reply.now) (output (K.told sink.old) page.old (K.faults sink.old)) (output (K.told sink.new) page.new (K.faults sink.new)) result }
+    requires { IsSupportedReply reply.now }
+    ensures { Writes (spaced_reply system.now reply.now)
+        (page.old, K.state sink.old) (page.new, K.state sink.new) result }
 {
     match reply {
         Reply::Done => write_behind(&[Piece::Plain("done")], page, sink),
@@ -164,7 +167,7 @@ fn write_reply<K: Sink>(
     }
 }
 
-/// Writes the line of entry n.
+// Writes the line of entry n.
 fn write_entry<K: Sink>(
     system: &System,
     n: u64,
@@ -172,8 +175,9 @@ fn write_entry<K: Sink>(
     page: &mut Page,
     sink: &mut K,
 ) -> Result<(), Failed>
-    requires { IsBuiltEntry entry.now }
-    ensures { Writes (entry_line system.now n entry.now) (output (K.told sink.old) page.old (K.faults sink.old)) (output (K.told sink.new) page.new (K.faults sink.new)) result }
+    requires { IsSupportedEntry entry.now }
+    ensures { Writes (entry_line system.now n entry.now)
+        (page.old, K.state sink.old) (page.new, K.state sink.new) result }
 {
     write_actor(n, entry, page, sink)?;
     write_act(system, &entry.act, page, sink)?;
@@ -182,9 +186,10 @@ fn write_entry<K: Sink>(
     page.write_byte(b'\n', sink)
 }
 
-#[tactic(auto, unfolding(crate::specs::Rendering::actor_text, crate::specs::Pieces::piece_text))]
+#[tactic(auto, unfolding(crate::specs::Rendering::actor_text, page_text::specs::Pieces::piece_text))]
 fn write_actor<K: Sink>(n: u64, entry: &Entry, page: &mut Page, sink: &mut K) -> Result<(), Failed>
-    ensures { Writes (actor_text n entry.now) (output (K.told sink.old) page.old (K.faults sink.old)) (output (K.told sink.new) page.new (K.faults sink.new)) result }
+    ensures { Writes (actor_text n entry.now)
+        (page.old, K.state sink.old) (page.new, K.state sink.new) result }
 {
     write_words(
         &[
@@ -204,8 +209,9 @@ pub fn write_entries<K: Sink>(
     page: &mut Page,
     sink: &mut K,
 ) -> Result<(), Failed>
-    requires { AllByRecursion IsBuiltEntry entries.now }
-    ensures { Writes (entry_lines system.now 1 entries.now) (output (K.told sink.old) page.old (K.faults sink.old)) (output (K.told sink.new) page.new (K.faults sink.new)) result }
+    requires { AllByRecursion IsSupportedEntry entries.now }
+    ensures { Writes (entry_lines system.now 1 entries.now)
+        (page.old, K.state sink.old) (page.new, K.state sink.new) result }
 {
     let mut n: u64 = 0;
     for entry in entries {

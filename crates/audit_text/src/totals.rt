@@ -5,13 +5,12 @@ ghost use Rattle.audit_model.specs.AuditText.{before_last, end_word, total_line,
 ghost use Rattle.jx_model.specs.Granules.{heap_granules, used_granules};
 ghost use Rattle.jx_model.specs.Journal.{entry_words, words_of};
 ghost use Rattle.jx_model.specs.Legal.{IsAdmittedPast};
-ghost use Rattle.audit_text.specs.Rendering.{IsBuiltEntry, total, where_live};
-ghost use Rattle.audit_text.specs.Writes.{Writes, output};
+ghost use Rattle.audit_text.specs.Rendering.{IsSupportedEntry, total, where_live};
+ghost use Rattle.page_text.specs.Writes.{Writes};
 
 use crate::domains::{end_reason, made_template};
-use crate::page::Page;
-use crate::pieces::{Piece, write_line};
 use jx_base::{Act, Entry, Failed, Reason, Sink, System};
+use page_text::{Page, Piece, write_line};
 
 fn wide(n: u32) -> u64
     ensures same { result ≡ n }
@@ -20,7 +19,7 @@ fn wide(n: u32) -> u64
     u64::from(n)
 }
 
-/// The granules of the heap of a domain of the template.
+// The granules of the heap of a domain of the template.
 #[tactic(auto, unfolding(jx_model::specs::Granules::heap_granules, jx_model::specs::Granules::heap_of_template, jx_base::specs::Basics::parts_of, program_model::specs::Limits::granule_cells))]
 fn heap_granules(system: &System, template: u32) -> u64
     ensures granules { result ≡ heap_granules system.now template }
@@ -32,7 +31,7 @@ fn heap_granules(system: &System, template: u32) -> u64
     }
 }
 
-/// The granules that a domain of the template has in use, if it has not ended.
+// The granules that a domain of the template has in use, if it has not ended.
 #[tactic(auto, unfolding(crate::specs::Rendering::total, crate::specs::Rendering::where_live))]
 fn granules_of(system: &System, template: u32, why: Option<Reason>) -> u64
     ensures granules { result ≡ total (where_live why (heap_granules system.now template)) }
@@ -44,10 +43,10 @@ fn granules_of(system: &System, template: u32, why: Option<Reason>) -> u64
     }
 }
 
-/// How many granules are in use.
+// How many granules are in use.
 fn used_granules(system: &System, entries: &[Entry]) -> u64
     requires admitted { IsAdmittedPast system.now (reverse entries.now) }
-    requires built { AllByRecursion IsBuiltEntry entries.now }
+    requires supported { AllByRecursion IsSupportedEntry entries.now }
     ensures { result ≡ used_granules system.now (reverse entries.now) }
 {
     let mut domains: u64 = 0;
@@ -61,10 +60,10 @@ fn used_granules(system: &System, entries: &[Entry]) -> u64
     used
 }
 
-/// The words that the entry costs.
+// The words that the entry costs.
 #[tactic(auto, unfolding(jx_model::specs::Journal::entry_words, jx_model::specs::Journal::act_words, jx_model::specs::Journal::reply_words))]
 fn entry_words(entry: &Entry) -> u64
-    requires built { IsBuiltEntry entry.now }
+    requires supported { IsSupportedEntry entry.now }
     requires small { entry_words entry.now < 2 ^ 32 }
     ensures { result ≡ entry_words entry.now }
 {
@@ -74,9 +73,9 @@ fn entry_words(entry: &Entry) -> u64
     }
 }
 
-/// The words that the entries cost.
+// The words that the entries cost.
 fn words_of(entries: &[Entry]) -> u64
-    requires built { AllByRecursion IsBuiltEntry entries.now }
+    requires supported { AllByRecursion IsSupportedEntry entries.now }
     requires small { words_of (reverse entries.now) < 2 ^ 32 }
     ensures { result ≡ words_of (reverse entries.now) }
 {
@@ -87,9 +86,9 @@ fn words_of(entries: &[Entry]) -> u64
     words
 }
 
-/// The words that the entries before the last one cost.
+// The words that the entries before the last one cost.
 fn words_before_last(entries: &[Entry]) -> u64
-    requires built { AllByRecursion IsBuiltEntry entries.now }
+    requires supported { AllByRecursion IsSupportedEntry entries.now }
     requires small { words_of (before_last (reverse entries.now)) < 2 ^ 32 }
     ensures { result ≡ words_of (before_last (reverse entries.now)) }
 {
@@ -99,9 +98,9 @@ fn words_before_last(entries: &[Entry]) -> u64
     }
 }
 
-/// The word of how the run ends.
+// The word of how the run ends.
 fn end_word(entries: &[Entry]) -> &'static str
-    requires { AllByRecursion IsBuiltEntry entries.now }
+    requires { AllByRecursion IsSupportedEntry entries.now }
     ensures { result.now ≡ end_word (reverse entries.now) }
 {
     match entries.split_last() {
@@ -114,7 +113,7 @@ fn end_word(entries: &[Entry]) -> &'static str
     }
 }
 
-#[tactic(auto, unfolding(audit_model::specs::AuditText::total_line, crate::specs::Pieces::piece_text))]
+#[tactic(auto, unfolding(audit_model::specs::AuditText::total_line, page_text::specs::Pieces::piece_text))]
 fn write_total<K: Sink>(
     word: &str,
     used: u64,
@@ -122,7 +121,8 @@ fn write_total<K: Sink>(
     page: &mut Page,
     sink: &mut K,
 ) -> Result<(), Failed>
-    ensures { Writes (total_line word.now used all) (output (K.told sink.old) page.old (K.faults sink.old)) (output (K.told sink.new) page.new (K.faults sink.new)) result }
+    ensures { Writes (total_line word.now used all)
+        (page.old, K.state sink.old) (page.new, K.state sink.new) result }
 {
     write_line(
         &[
@@ -144,8 +144,9 @@ pub fn write_totals<K: Sink>(
     sink: &mut K,
 ) -> Result<(), Failed>
     requires admitted { IsAdmittedPast system.now (reverse entries.now) }
-    requires built { AllByRecursion IsBuiltEntry entries.now }
-    ensures { Writes (total_lines system.now (reverse entries.now)) (output (K.told sink.old) page.old (K.faults sink.old)) (output (K.told sink.new) page.new (K.faults sink.new)) result }
+    requires supported { AllByRecursion IsSupportedEntry entries.now }
+    ensures { Writes (total_lines system.now (reverse entries.now))
+        (page.old, K.state sink.old) (page.new, K.state sink.new) result }
 {
     let granules = wide(system.plan.granules);
     let used = used_granules(system, entries);

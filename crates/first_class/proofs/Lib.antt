@@ -4,3 +4,6 @@ pub mod HelloRead
 pub mod HelloLinked
 pub mod FirstClass
 pub mod FirstComplete
+pub mod FirstRead
+pub mod FirstLinking
+pub mod FirstSystem

@@ -1,1 +1,3 @@
 pub mod FirstClass
+pub mod FirstSystem
+pub mod ByNow

@@ -1,5 +1,14 @@
-//! The one class that is run by now.
+//! The one class that is run by now: its bytes, its system and its run. All of this goes, whole, once
+//! systems of any classes are linked and run.
 #![tactic(auto)]
+
+mod by_now;
+mod history;
+mod laws;
+mod link;
+
+pub use by_now::{first_run, is_first};
+pub use laws::first_system_prints;
 
 /// A class whose `main` prints `hi`, of version 52.0.
 pub const FIRST_CLASS: [u8; 191] = [

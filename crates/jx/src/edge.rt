@@ -20,7 +20,7 @@ impl<'a, R: Files> FolderShelf<'a, R> {
     }
 }
 
-/// The file's bytes, and of a longer one than is fetched one byte more than that.
+// The file's bytes, and of a longer one than is fetched one byte more than that.
 fn read_file<R: Files>(rt: &R, alloc: Global, name: &str) -> io::Result<Vec<u8>> {
     let file = fs::open(rt, name)?;
     let mut bytes = Vec::new(alloc);
@@ -29,9 +29,7 @@ fn read_file<R: Files>(rt: &R, alloc: Global, name: &str) -> io::Result<Vec<u8>>
 }
 
 impl<R: Files> Shelf for FolderShelf<'_, R> {
-    ghost told = { λ _. None };
-
-    ghost faults = { λ shelf. shelf.faults };
+    ghost state = { λ shelf. record { told = None; faults = shelf.faults } };
 
     fn fetch(&mut self, alloc: Global, name: &str) -> Fetch {
         match read_file(self.rt, alloc, name) {
@@ -63,9 +61,7 @@ impl<W: Write> StreamSink<W> {
 }
 
 impl<W: Write> Sink for StreamSink<W> {
-    ghost told = { λ _. None };
-
-    ghost faults = { λ sink. sink.faults };
+    ghost state = { λ sink. record { told = None; faults = sink.faults } };
 
     fn put(&mut self, bytes: &[u8]) -> Result<(), Failed> {
         match self.stream.write_all(bytes) {

@@ -11,7 +11,7 @@ use std::io::ErrorKind;
 use std::process::ExitCode;
 use std::{env, io};
 
-/// The words behind the program's name. Words that aren't UTF-8 are none.
+// The words behind the program's name. Words that aren't UTF-8 are none.
 fn words(rt: &HostRuntime) -> Result<Vec<String>, OutOfMemory> {
     match env::args(rt) {
         Ok(args) => args.skip(1).collect(rt.alloc()),

@@ -1,11 +1,21 @@
--- What a shelf holds, and what a fetch answers.
+-- What a shelf shows, and what a fetch answers.
 use Rattle.std.specs.Prelude.{◌≡◌, ℕ, ◌≤◌, ◌<◌, List, length, Option, Some, None, IsSomeAnd}
+use Rattle.jx_base.specs.Faults.{HasRisen}
 use Rattle.jx_base.specs.declared.shelf.Fetch.{Fetch}
 use Rattle.jx_base.specs.declared.shelf.Fetch.TheVariants.{Got, NotThere, TooLong, Failed, OutOfMemory}
 
 -- the bytes of each name that has a file
 abbrev pub Files : Type 0
 Files = List ℕ → Option (List ℕ)
+
+-- what a shelf shows: its files, where it tells them, and how often it has failed
+pub record ShelfState : Type 0 where
+  pub told : Option Files
+  pub faults : ℕ
+
+-- the shelf failed in a call
+abbrev pub HasShelfFailed : ShelfState → ShelfState → Type 0
+HasShelfFailed before now = HasRisen before.faults now.faults
 
 -- the length of the longest file that is fetched: 16 MiB
 abbrev pub longest_file : ℕ

@@ -1,14 +1,14 @@
 //! Where files come from.
-ghost use Rattle.std.specs.Prelude.{◌≡◌, ◌≢◌, ◌≤◌, ◌↔◌, ℕ, Option, Some, IsTrue};
-ghost use Rattle.std.specs.List.{list_any};
-ghost use Rattle.jx_base.specs.Faults.{HasRisen};
-ghost use Rattle.jx_base.specs.Files.{Files, IsAnswer, IsToldAnswer};
-ghost use Rattle.jx_base.specs.InMemory.{file_of, file_entries, is_listed, fetch_fails, after_fetch};
+ghost use Rattle.std.specs.Prelude.{◌≡◌, ◌≢◌, ◌≤◌, ◌↔◌, Some, IsTrue};
+ghost use Rattle.jx_base.specs.Files.{HasShelfFailed, IsAnswer, IsToldAnswer, ShelfState};
+ghost use Rattle.jx_base.specs.InMemory.{file_of, file_entries, is_listed, fetch_fails};
+ghost use Rattle.jx_base.specs.InMemory.{after_fetch, shown_by_shelf};
 
 use std::alloc::Global;
 use std::marker::Model;
 
-/// What a fetch answers. `TooLong` stands for a file above 16 MiB, `Failed` for a fault of the shelf.
+/// What a fetch answers. `TooLong` stands for a file above 16 MiB, `Failed` for a fault of the
+/// shelf.
 #[derive(Drop)]
 pub enum Fetch {
     Got(Vec<u8>),
@@ -20,24 +20,21 @@ pub enum Fetch {
 
 /// A place where files lie under names.
 pub trait Shelf {
-    /// The files, where the shelf tells them. No fetch changes them.
-    ghost told: { Self → Option Files };
-
-    /// How often the shelf has failed.
-    ghost faults: { Self → ℕ };
+    /// The files, where the shelf tells them, and how often it has failed. No fetch changes the files.
+    ghost state: { Self → ShelfState };
 
     /// The file of the name, of at most 16 MiB.
     fn fetch(&mut self, alloc: Global, name: &str) -> Fetch
-        ensures same { told self.new ≡ told self.old }
-        ensures answer { IsAnswer (told self.old) name.now result }
-        ensures later { faults self.old ≤ faults self.new }
-        ensures cause { result ≡ Fetch.Failed → HasRisen (faults self.old) (faults self.new) };
+        ensures same { (state self.new).told ≡ (state self.old).told }
+        ensures answer { IsAnswer (state self.old).told name.now result }
+        ensures later { (state self.old).faults ≤ (state self.new).faults }
+        ensures cause { result ≡ Fetch.Failed → HasShelfFailed (state self.old) (state self.new) };
 }
 
 /// The length of the longest file that is fetched, in bytes: 16 MiB.
 pub const MAX_FILE: usize = 16_777_216;
 
-/// The first file of the name.
+// The first file of the name.
 fn find(alloc: Global, files: &[(String, Vec<u8>)], name: &str) -> Fetch
     ensures answer { IsToldAnswer (file_of (file_entries files.now)) name.now result }
     ensures honest { result ≢ Fetch.Failed }
@@ -80,9 +77,7 @@ impl HonestShelf {
 }
 
 impl Shelf for HonestShelf {
-    ghost told = { λ shelf. Some (file_of shelf) };
-
-    ghost faults = { λ _. 0 };
+    ghost state = { λ shelf. record { told = Some (file_of shelf); faults = 0 } };
 
     fn fetch(&mut self, alloc: Global, name: &str) -> Fetch {
         find(alloc, &self.files, name)
@@ -96,8 +91,8 @@ pub fn is_listed(failing: &[u32], place: u64) -> bool
     failing.iter().any(|listed| u64::from(*listed) == place)
 }
 
-/// A shelf in memory that fails at the fetches whose places, from 0, are listed. The first file of a
-/// name counts.
+/// A shelf in memory that fails at the fetches whose places, from 0, are listed. The first file of
+/// a name counts.
 #[derive(Drop)]
 pub struct MemoryShelf {
     files: Vec<(String, Vec<u8>)>,
@@ -107,9 +102,9 @@ pub struct MemoryShelf {
 }
 
 impl Model for MemoryShelf {
-    ghost use Rattle.jx_base.specs.InMemory.{ShelfState, file_entries};
+    ghost use Rattle.jx_base.specs.InMemory.{MemoryShelfState, file_entries};
 
-    ghost Value = { ShelfState };
+    ghost Value = { MemoryShelfState };
 
     ghost view = { λ shelf. record {
       files = file_entries shelf.files.items;
@@ -133,15 +128,13 @@ impl MemoryShelf {
 }
 
 impl Shelf for MemoryShelf {
-    ghost told = { λ shelf. Some (file_of shelf.files) };
-
-    ghost faults = { λ shelf. shelf.faults };
+    ghost state = { shown_by_shelf };
 
     fn fetch(&mut self, alloc: Global, name: &str) -> Fetch
         ensures same { Some (file_of self.new.files) ≡ Some (file_of self.old.files) }
         ensures answer { IsAnswer (Some (file_of self.old.files)) name.now result }
         ensures later { self.old.faults ≤ self.new.faults }
-        ensures cause { result ≡ Fetch.Failed → HasRisen self.old.faults self.new.faults }
+        ensures cause { result ≡ Fetch.Failed → HasShelfFailed (shown_by_shelf self.old) (shown_by_shelf self.new) }
         ensures fails { result ≡ Fetch.Failed ↔ IsTrue (fetch_fails self.old) }
         ensures after { self.new ≡ after_fetch self.old }
     {

@@ -1,7 +1,8 @@
 //! Where text goes.
-ghost use Rattle.std.specs.Prelude.{◌≡◌, ◌+◌, ◌≤◌, ◌++◌, [], ℕ, List, Option, Some, IfOk, length, is_err, vec_len, vec_capacity};
-ghost use Rattle.jx_base.specs.Puts.{Puts};
-ghost use Rattle.jx_base.specs.InMemory.{put_fails, after_put};
+ghost use Rattle.std.specs.Prelude.{◌≡◌, ◌+◌, ◌≤◌, ◌++◌, [], IfOk, length, is_err};
+ghost use Rattle.std.specs.Prelude.{vec_len, vec_capacity};
+ghost use Rattle.jx_base.specs.Puts.{Puts, SinkState};
+ghost use Rattle.jx_base.specs.InMemory.{put_fails, after_put, shown_by_sink};
 
 use crate::OutOfMemory;
 use crate::shelf::is_listed;
@@ -14,19 +15,16 @@ pub struct Failed;
 
 /// A place that takes bytes.
 pub trait Sink {
-    /// The bytes that were taken, where the sink tells them.
-    ghost told: { Self → Option (List ℕ) };
-
-    /// How often the sink has failed.
-    ghost faults: { Self → ℕ };
+    /// The bytes that were taken, where the sink tells them, and how often it has failed.
+    ghost state: { Self → SinkState };
 
     /// Puts the piece behind what was taken.
     fn put(&mut self, bytes: &[u8]) -> Result<(), Failed>
-        ensures puts { Puts bytes.now (told self.old) (faults self.old) (told self.new) (faults self.new) result };
+        ensures puts { Puts bytes.now (state self.old) (state self.new) result };
 }
 
-/// A sink in memory. A put fails where its place, from 0, is listed, and then takes nothing, or where the
-/// piece is longer than the room left, and then takes what fits.
+/// A sink in memory. A put fails where its place, from 0, is listed, and then takes nothing, or
+/// where the piece is longer than the room left, and then takes what fits.
 #[derive(Drop)]
 pub struct MemorySink {
     taken: Vec<u8>,
@@ -38,9 +36,9 @@ pub struct MemorySink {
 
 impl Model for MemorySink {
     ghost use Rattle.std.specs.Prelude.{length, ◌≤◌, vec_capacity};
-    ghost use Rattle.jx_base.specs.InMemory.{SinkState};
+    ghost use Rattle.jx_base.specs.InMemory.{MemorySinkState};
 
-    ghost Value = { SinkState };
+    ghost Value = { MemorySinkState };
 
     ghost view = { λ sink. record {
       taken = sink.taken.items;
@@ -56,7 +54,8 @@ impl Model for MemorySink {
 impl MemorySink {
     /// Reserves room for so many bytes. The puts take no memory.
     pub fn open(alloc: Global, room: u32, failing: Vec<u32>) -> Result<MemorySink, OutOfMemory>
-        ensures { IfOk result (λ sink. sink ≡ record { taken = []; room = room; failing = failing.items; calls = 0; faults = 0 }) }
+        ensures { IfOk result (λ sink.
+            sink ≡ record { taken = []; room = room; failing = failing.items; calls = 0; faults = 0 }) }
     {
         let room = room as usize;
         Ok(MemorySink {
@@ -76,7 +75,7 @@ impl MemorySink {
     }
 }
 
-/// Takes bytes for which there is room.
+// Takes bytes for which there is room.
 fn take(taken: &mut Vec<u8>, bytes: &[u8])
     requires { vec_len taken.old + length bytes.now ≤ vec_capacity taken.old }
     ensures items { taken.new.items ≡ taken.old.items ++ bytes.now }
@@ -86,12 +85,10 @@ fn take(taken: &mut Vec<u8>, bytes: &[u8])
 }
 
 impl Sink for MemorySink {
-    ghost told = { λ sink. Some sink.taken };
-
-    ghost faults = { λ sink. sink.faults };
+    ghost state = { shown_by_sink };
 
     fn put(&mut self, bytes: &[u8]) -> Result<(), Failed>
-        ensures puts { Puts bytes.now (Some self.old.taken) self.old.faults (Some self.new.taken) self.new.faults result }
+        ensures puts { Puts bytes.now (shown_by_sink self.old) (shown_by_sink self.new) result }
         ensures fails { is_err result ≡ put_fails self.old bytes.now }
         ensures after { self.new ≡ after_put self.old bytes.now }
     {

@@ -150,23 +150,23 @@ IsWellMadeTest s past a = Decides (is_well_made s past a) (IsWellMade s past a)
 -- ---- acts with code
 
 -- whether the code of the act is there
-unfoldable pub is_built : Act → Bool
-is_built (act.Create t) = true
-is_built (act.Print text) = true
-is_built (act.Go t) = true
-is_built (act.Exit code) = true
-is_built act.Yield = true
-is_built (act.EndThread c) = true
-is_built (act.End r) = true
-is_built act.Quiet = true
-is_built act.Halt = true
-is_built _ = false
+unfoldable pub is_supported : Act → Bool
+is_supported (act.Create t) = true
+is_supported (act.Print text) = true
+is_supported (act.Go t) = true
+is_supported (act.Exit code) = true
+is_supported act.Yield = true
+is_supported (act.EndThread c) = true
+is_supported (act.End r) = true
+is_supported act.Quiet = true
+is_supported act.Halt = true
+is_supported _ = false
 
 -- the code of the act is there
-abbrev pub IsBuilt : Act → Type 0
-IsBuilt a = IsTrue (is_built a)
+abbrev pub IsSupported : Act → Type 0
+IsSupported a = IsTrue (is_supported a)
 
 -- what a computed case opens
 unfoldable pub opened_well_made : Unit {0}
-unfolding is_portal_in is_word_in is_class is_parcel_in is_exception is_end_reason is_well_made is_built
+unfolding is_portal_in is_word_in is_class is_parcel_in is_exception is_end_reason is_well_made is_supported
 opened_well_made = tt

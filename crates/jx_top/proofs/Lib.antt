@@ -1,8 +1,7 @@
-pub mod FirstSystem
 pub mod ReadClasses
 pub mod ReadMethods
-pub mod Accepted
-pub mod Prints
-pub mod Linking
-pub mod Assemblies
-pub mod Asked
+pub mod FirstFile
+pub mod OneOutcome
+pub mod CommandSteps
+pub mod OneCommand
+pub mod OneSystem

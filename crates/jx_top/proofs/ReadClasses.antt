@@ -15,7 +15,8 @@ use Rattle.class_grammar.specs.Constants.{class_fault}
 use Rattle.class_grammar.proofs.PartLaws.{one_meaning, one_fault, not_both}
 use Rattle.class_reader.proofs.ClassLaws.{lawful_class_file}
 use Rattle.code_reader.proofs.ReadingLaws.{code_only, fault_only}
-use Rattle.jx_top.specs.Classes.{IsReadCode, HasReadCode, IsReadClass, IsBadCode, HasFirstBadCode, IsBadClass}
+use Rattle.linker_members.specs.ReadCode.{IsReadCode, HasReadCode}
+use Rattle.jx_top.specs.ReadClasses.{IsReadClass, IsBadCode, HasFirstBadCode, IsBadClass}
 use Rattle.jx_top.specs.declared.defect.Defect.{Defect}
 use Rattle.jx_top.specs.declared.defect.DefectKind.TheVariants as defect
 
@@ -47,7 +48,7 @@ one_code_fault code pc qc k l p q =
 one_bad_code : (code : Code) (d e : Defect) → IsBadCode code d → IsBadCode code e → d ≡ e
 one_bad_code code d e p q =
     let same = one_code_fault code p.pc q.pc p.kind q.kind p.fault q.fault in
-    p.told ∙ ap (λ (f : CodeFault). record { at = code.at + f.pc; kind = defect.Code f.kind }) same ∙ sym q.told
+    p.defect_is ∙ ap (λ (f : CodeFault). record { at = code.at + f.pc; kind = defect.Code f.kind }) same ∙ sym q.defect_is
 
 -- ---- methods
 
@@ -112,7 +113,7 @@ read_or_bad bytes file d p (inr q) =
 -- a bad class has one first defect
 pub one_defect : (bytes : List ℕ) (d e : Defect) → IsBadClass bytes d → IsBadClass bytes e → d ≡ e
 one_defect bytes d e (inl p) (inl q) =
-    p.told ∙ ap (λ (f : ClassFault). record { at = f.at; kind = defect.File f.kind }) (one_class_fault bytes p.at q.at p.kind q.kind p.fault q.fault) ∙ sym q.told
+    p.defect_is ∙ ap (λ (f : ClassFault). record { at = f.at; kind = defect.File f.kind }) (one_class_fault bytes p.at q.at p.kind q.kind p.fault q.fault) ∙ sym q.defect_is
 one_defect bytes d e (inl p) (inr q) = absurd (file_or_fault bytes q.file p.at p.kind q.class p.fault)
 one_defect bytes d e (inr p) (inl q) = absurd (file_or_fault bytes p.file q.at q.kind p.class q.fault)
 one_defect bytes d e (inr p) (inr q) =

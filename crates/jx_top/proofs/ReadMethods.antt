@@ -5,7 +5,8 @@ use Rattle.std.specs.List.{AllByRecursion}
 use Rattle.std.proofs.lemmas.List.{take-append-drop}
 use Rattle.jx_base.specs.declared.class_file.Code.{Code}
 use Rattle.jx_base.specs.declared.class_file.Member.{Member}
-use Rattle.jx_top.specs.Classes.{HasReadCode, IsBadCode, ReadsMethod, ReadsMethods}
+use Rattle.linker_members.specs.ReadCode.{HasReadCode}
+use Rattle.jx_top.specs.ReadClasses.{IsBadCode, ReadsMethod, ReadsMethods}
 use Rattle.jx_top.specs.declared.class_error.ClassError.{ClassError}
 use Rattle.jx_top.specs.declared.class_error.ClassError.TheVariants as error
 use Rattle.jx_top.specs.declared.defect.Defect.{Defect}

@@ -1,19 +1,105 @@
--- What a request comes to, and what it puts.
-use Rattle.std.specs.Prelude.{ℕ, List, Option, string_bytes}
+-- What a command comes to, and what it puts. A command more is a case more of these definitions.
+use Rattle.std.specs.Prelude.{◌≡◌, ℕ, List, Option, Some, Result, Ok, Err}
 use Rattle.jx_base.specs.Files.{Files}
-use Rattle.jx_top.specs.declared.request.Request.{Request}
-use Rattle.jx_top.specs.declared.request.Request.TheVariants.{Run, Asm}
-use Rattle.jx_top.specs.declared.status.Status.{Status}
-use Rattle.jx_top.specs.Assembling.{HasAsmCause, PutsClassFile}
-use Rattle.jx_top.specs.Headline.{Prints}
-use Rattle.jx_top.specs.Outcome.{HasCause}
+use Rattle.jx_base.specs.Puts.{SinkState, TookWhole, TookPrefix, TookNothing}
+use Rattle.jx_base.specs.declared.act.Act.TheVariants as act
+use Rattle.jx_base.specs.declared.class_file.ClassFile.{ClassFile}
+use Rattle.jx_base.specs.declared.program.System.{System}
+use Rattle.first_class.specs.ByNow.{IsFirstFile}
+use Rattle.jx_top.specs.Assemblies.{SaysBytes, HasGoodText, HasBadText}
+use Rattle.jx_top.specs.Commands.{Command, IsFileOf}
+use Rattle.jx_top.specs.Commands as command
+use Rattle.jx_top.specs.GotFiles.{IsGot, IsNotGot}
+use Rattle.jx_top.specs.Headline.{IsAuditOf}
+use Rattle.jx_top.specs.Outcomes.{Outcome}
+use Rattle.jx_top.specs.Outcomes as outcome
+use Rattle.jx_top.specs.Systems.{HasClass, IsSystemOf, IsStopped}
 
--- what a sink holds at the end of the request: a run's audit, or the class file of a text
-abbrev pub PutsFor : Option Files → Request → Option (List ℕ) → Option (List ℕ) → Status → Type 0
-PutsFor told (Run file workers) before now outcome = Prints told (string_bytes file) before now outcome
-PutsFor told (Asm file) before now outcome = PutsClassFile told (string_bytes file) before now outcome
+-- ---- what the files give
 
--- why the request ended so
-abbrev pub HasCauseFor : Option Files → Request → Status → Type 0
-HasCauseFor told (Run file workers) outcome = HasCause told (string_bytes file) outcome
-HasCauseFor told (Asm file) outcome = HasAsmCause told (string_bytes file) outcome
+-- the file is got, and is the one that is run by now
+pub record HasFirstFile (files : Files) (file : List ℕ) : Type 0 where
+  pub bytes : List ℕ
+  pub got : IsGot files file bytes
+  pub first : IsFirstFile file bytes
+
+-- the class of the file is got and read, and isn't run by now
+pub record HasOtherClass (files : Files) (file name : List ℕ) : Type 0 where
+  pub is_file_of : IsFileOf file name
+  pub class : ClassFile
+  pub has : HasClass files name class
+  pub other : HasFirstFile files file → ⊥
+
+abbrev pub IsDueForRun : Files → List ℕ → Outcome → Type 0
+IsDueForRun files file outcome.Done = HasFirstFile files file
+IsDueForRun files file (outcome.NotYet n) = HasOtherClass files file n
+IsDueForRun files file o = IsStopped files file o
+
+abbrev pub IsDueForAsm : Files → List ℕ → Outcome → Type 0
+IsDueForAsm files file outcome.Done = HasGoodText files file
+IsDueForAsm files file (outcome.BadAsm f) = HasBadText files file f
+IsDueForAsm files file o = IsNotGot files file o
+
+-- the outcome that the files give a command, where nothing of the outside fails: memory, shelf or sink
+abbrev pub IsDueFor : Files → Command → Outcome → Type 0
+IsDueFor files (command.Run file workers) o = IsDueForRun files file o
+IsDueFor files (command.Asm file) o = IsDueForAsm files file o
+
+-- they give one at most
+abbrev pub IsOneOutcome : Type 0
+IsOneOutcome = (files : Files) (c : Command) (a b : Outcome) → IsDueFor files c a → IsDueFor files c b → a ≡ b
+
+-- and a file word one system
+abbrev pub IsOneSystem : Type 0
+IsOneSystem = (files : Files) (file : List ℕ) (a b : System) → IsSystemOf files file a → IsSystemOf files file b → a ≡ b
+
+-- ---- why a command ended so
+
+-- the cause, over the shelf's files: what is due, or the outside
+abbrev pub IsCaused : Files → Command → Outcome → Type 0
+IsCaused files c outcome.ShelfFault = Unit {0}
+IsCaused files c outcome.OutOfMemory = Unit {0}
+IsCaused files c outcome.SinkFault = IsDueFor files c outcome.Done
+IsCaused files c o = IsDueFor files c o
+
+-- the outcome is one that the command can have, whatever the shelf tells
+abbrev pub CanEnd : Command → Outcome → Type 0
+CanEnd c outcome.Usage = ⊥
+CanEnd (command.Run file workers) (outcome.BadAsm f) = ⊥
+CanEnd (command.Asm file) (outcome.BadClass n d) = ⊥
+CanEnd (command.Asm file) (outcome.NotYet n) = ⊥
+CanEnd c _ = Unit {0}
+
+-- the command can end so, and where the shelf tells its files, they are why
+pub record HasCauseFor (c : Command) (told : Option Files) (o : Outcome) : Type 0 where
+  pub can_end : CanEnd c o
+  pub where_told : (files : Files) → told ≡ Some files → IsCaused files c o
+
+-- the outcome is the one that is due, or memory was refused, or the sink failed where work was to be put
+abbrev pub ComesTo : Outcome → Outcome → Type 0
+ComesTo due outcome.OutOfMemory = Unit {0}
+ComesTo due outcome.SinkFault = due ≡ outcome.Done
+ComesTo due o = o ≡ due
+
+-- where the shelf tells its files, what they give is what comes
+abbrev pub IsDecidedFor : Command → Option Files → Outcome → Type 0
+IsDecidedFor c told o = (files : Files) (due : Outcome) → told ≡ Some files → IsDueFor files c due → ComesTo due o
+
+-- ---- what is put
+
+-- the whole text of a command that ends so: the audit of a history that ends in quiet, or the class file of a text
+abbrev pub IsTextOf : Files → Command → Outcome → List ℕ → Type 0
+IsTextOf files (command.Run file workers) outcome.Done text = IsAuditOf files file act.Quiet text
+IsTextOf files (command.Asm file) outcome.Done text = SaysBytes files file text
+IsTextOf files c _ text = ⊥
+
+-- so it is, where the shelf tells its files
+abbrev pub IsTextWhereTold : Command → Option Files → Outcome → List ℕ → Type 0
+IsTextWhereTold c told o text = (files : Files) → told ≡ Some files → IsTextOf files c o text
+
+-- what the sink took: after Done the whole text, after SinkFault a prefix of one, else nothing
+abbrev pub PutsFor : Command → Option Files → SinkState → SinkState → Outcome → Type 0
+PutsFor c told before now outcome.Done = (text : List ℕ) × IsTextWhereTold c told outcome.Done text × TookWhole before text now
+PutsFor c told before now outcome.SinkFault =
+    (o : Outcome) × (text : List ℕ) × IsTextWhereTold c told o text × TookPrefix before text now
+PutsFor c told before now _ = TookNothing before now

@@ -1,17 +1,21 @@
 //! Assembling the text of a file.
 ghost use Rattle.std.specs.Prelude.{◌≡◌, ◌≤◌, ◌^◌, length, IsErrOf};
-ghost use Rattle.jx_base.specs.Faults.{HasRisen};
-ghost use Rattle.jx_base.specs.Puts.{Puts};
-ghost use Rattle.jx_top.specs.Assembling.{AssemblesText, AssemblesFile, HasAsmCause, PutsBytes, PutsClassFile};
+ghost use Rattle.jx_base.specs.Files.{HasShelfFailed};
+ghost use Rattle.jx_base.specs.Puts.{HasSinkFailed};
+ghost use Rattle.jx_top.specs.Assemblies.{AssemblesText};
+ghost use Rattle.jx_top.specs.Commands.{Asm};
+ghost use Rattle.jx_top.specs.Outcomes.{outcome_of};
+ghost use Rattle.jx_top.specs.Requests.{HasCauseFor, PutsFor};
+ghost use Rattle.jx_top.specs.Steps.{FindsText, PutsText};
 
 use crate::fetching::fetch_bytes;
 use crate::status::Status;
-use audit_text::Page;
 use class_asm::{AsmError, assemble};
 use jx_base::{Failed, Shelf, Sink};
+use page_text::put_bytes;
 use std::alloc::Global;
 
-/// The class file that the text says.
+// The class file that the text says.
 fn assemble_text(alloc: Global, text: &[u8]) -> Result<Vec<u8>, Status>
     requires { length text.now ≤ 2 ^ 31 }
     ensures { AssemblesText text.now result }
@@ -23,28 +27,19 @@ fn assemble_text(alloc: Global, text: &[u8]) -> Result<Vec<u8>, Status>
     }
 }
 
-/// The class file that the text of the file says.
+// The class file that the text of the file says.
 fn assemble_file<L: Shelf>(alloc: Global, file: &str, shelf: &mut L) -> Result<Vec<u8>, Status>
-    ensures bytes { AssemblesFile (L.told shelf.old) file.now result }
-    ensures cause { IsErrOf result Status.ShelfFault → HasRisen (L.faults shelf.old) (L.faults shelf.new) }
+    ensures bytes { FindsText (L.state shelf.old).told file.now result }
+    ensures cause { IsErrOf result Status.ShelfFault → HasShelfFailed (L.state shelf.old) (L.state shelf.new) }
 {
     let text = fetch_bytes(alloc, file, shelf)?;
     assemble_text(alloc, &text)
 }
 
-/// Puts the bytes in pieces of at most 4,096.
-fn put_bytes<K: Sink>(bytes: &[u8], sink: &mut K) -> Result<(), Failed>
-    ensures { Puts bytes.now (K.told sink.old) (K.faults sink.old) (K.told sink.new) (K.faults sink.new) result }
-{
-    let mut page = Page::new();
-    page.write(bytes, sink)?;
-    page.flush(sink)
-}
-
-/// Puts the class file.
+// Puts the class file.
 fn put_class_file<K: Sink>(bytes: &[u8], sink: &mut K) -> Status
-    ensures puts { PutsBytes bytes.now (K.told sink.old) (K.told sink.new) result }
-    ensures cause { result ≡ Status.SinkFault → HasRisen (K.faults sink.old) (K.faults sink.new) }
+    ensures puts { PutsText bytes.now (K.state sink.old) (K.state sink.new) (outcome_of result) }
+    ensures cause { result ≡ Status.SinkFault → HasSinkFailed (K.state sink.old) (K.state sink.new) }
 {
     match put_bytes(bytes, sink) {
         Ok(()) => Status::Done,
@@ -59,10 +54,11 @@ pub fn assemble_class<L: Shelf, K: Sink>(
     shelf: &mut L,
     sink: &mut K,
 ) -> Status
-    ensures puts { PutsClassFile (L.told shelf.old) file.now (K.told sink.old) (K.told sink.new) result }
-    ensures cause { HasAsmCause (L.told shelf.old) file.now result }
-    ensures shelf { result ≡ Status.ShelfFault → HasRisen (L.faults shelf.old) (L.faults shelf.new) }
-    ensures sink { result ≡ Status.SinkFault → HasRisen (K.faults sink.old) (K.faults sink.new) }
+    ensures puts { PutsFor (Asm file.now) (L.state shelf.old).told
+        (K.state sink.old) (K.state sink.new) (outcome_of result) }
+    ensures cause { HasCauseFor (Asm file.now) (L.state shelf.old).told (outcome_of result) }
+    ensures shelf { result ≡ Status.ShelfFault → HasShelfFailed (L.state shelf.old) (L.state shelf.new) }
+    ensures sink { result ≡ Status.SinkFault → HasSinkFailed (K.state sink.old) (K.state sink.new) }
 {
     match assemble_file(alloc, file, shelf) {
         Ok(bytes) => put_class_file(&bytes, sink),

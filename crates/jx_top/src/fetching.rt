@@ -1,8 +1,9 @@
 //! Fetching a file.
-ghost use Rattle.std.specs.Prelude.{◌≡◌, ◌≤◌, length, IsErrOf, IfOk, MatchResult, string_bytes};
-ghost use Rattle.jx_base.specs.Faults.{HasRisen};
-ghost use Rattle.jx_base.specs.Files.{longest_file};
-ghost use Rattle.jx_top.specs.Outcome.{FindsBytes};
+ghost use Rattle.std.specs.Prelude.{◌≡◌, ◌≤◌, Some, length, IsErrOf, IfErr, IfOk, MatchResult};
+ghost use Rattle.std.specs.Prelude.{string_bytes};
+ghost use Rattle.jx_base.specs.Files.{Files, HasShelfFailed, longest_file};
+ghost use Rattle.jx_top.specs.GotFiles.{CanFailFetch, FetchesBytes};
+ghost use Rattle.jx_top.specs.Outcomes.{outcome_of};
 
 use crate::status::Status;
 use jx_base::{Fetch, Shelf};
@@ -10,18 +11,19 @@ use std::alloc::Global;
 
 /// The text again, for a status.
 pub fn copy_of(alloc: Global, text: &str) -> Result<String, Status>
-    ensures { MatchResult result (λ copy. string_bytes copy ≡ text.now) (λ outcome. outcome ≡ Status.OutOfMemory) }
+    ensures { MatchResult result
+        (λ copy. string_bytes copy ≡ text.now) (λ status. status ≡ Status.OutOfMemory) }
 {
     String::from_str(alloc, text).map_err(|_| Status::OutOfMemory)
 }
 
 /// The bytes of the file.
 pub fn fetch_bytes<L: Shelf>(alloc: Global, file: &str, shelf: &mut L) -> Result<Vec<u8>, Status>
-    ensures bytes { FindsBytes (L.told shelf.old) file.now result }
+    ensures bytes { (files : Files) → (L.state shelf.old).told ≡ Some files
+        → FetchesBytes files file.now result }
     ensures short { IfOk result (λ bytes. length bytes.items ≤ longest_file) }
-    ensures same { L.told shelf.new ≡ L.told shelf.old }
-    ensures later { L.faults shelf.old ≤ L.faults shelf.new }
-    ensures cause { IsErrOf result Status.ShelfFault → HasRisen (L.faults shelf.old) (L.faults shelf.new) }
+    ensures ends { IfErr result (λ status. CanFailFetch (outcome_of status)) }
+    ensures cause { IsErrOf result Status.ShelfFault → HasShelfFailed (L.state shelf.old) (L.state shelf.new) }
 {
     match shelf.fetch(alloc, file) {
         Fetch::Got(bytes) => Ok(bytes),

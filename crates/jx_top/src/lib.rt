@@ -4,22 +4,20 @@
 mod assembling;
 mod calls;
 mod class_error;
-mod classes;
+mod commands;
 mod defect;
 mod fetching;
-mod first_run;
 mod laws;
-mod lines;
-mod link;
+mod read_classes;
 mod request;
 mod run;
 mod status;
-mod words;
+mod status_lines;
 
 pub use calls::{jx_main, jx_serial};
 pub use class_asm::{AsmFault, AsmKind};
 pub use defect::{Defect, DefectKind};
-pub use laws::first_system_prints;
-pub use lines::{status_line, status_number};
+pub use laws::files_decide;
 pub use request::Request;
 pub use status::Status;
+pub use status_lines::{status_line, status_number};

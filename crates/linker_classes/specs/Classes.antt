@@ -1,5 +1,5 @@
--- What is linked of the one class file, in the outline of a system.
-use Rattle.std.specs.Prelude.{ℕ, ◌-◌, Bool, true, false, not, ◌&&◌, ◌||◌, List, [], ◌∷◌, ◌++◌, length, map, Option, Some, None, ◌==◌, if◌then◌else◌, slice_get, unwrap_or, codes}
+-- What is linked of one class file, in the outline of a system.
+use Rattle.std.specs.Prelude.{ℕ, Bool, true, false, not, ◌&&◌, ◌||◌, List, [], ◌∷◌, ◌++◌, length, map, Option, Some, None, ◌==◌, if◌then◌else◌, slice_get, unwrap_or}
 use Rattle.std.specs.List.{filter_map, list_any, position, range_with_len}
 use Rattle.std.specs.Str.{bytes_eq}
 use Rattle.jx_base.specs.declared.class_file.ClassFile.{ClassFile}
@@ -10,24 +10,29 @@ use Rattle.jx_base.specs.declared.class_file.Member.{Member}
 use Rattle.jx_base.specs.declared.ids.ClassId.{ClassId}
 use Rattle.jx_base.specs.declared.program.Class.{Class}
 use Rattle.jx_base.specs.declared.program.Field.{Field}
-use Rattle.jx_base.specs.declared.program.Method.{Method}
+use Rattle.jx_base.specs.declared.program.Plan.{Plan}
 use Rattle.jx_base.specs.declared.program.Resolved.{Resolved}
 use Rattle.jx_base.specs.declared.program.Resolved.TheVariants as resolved
 use Rattle.jx_base.specs.declared.program.Selector.{Selector}
 use Rattle.jx_base.specs.declared.program.System.{System}
-use Rattle.program_model.specs.BuiltIn.{array_class}
 use Rattle.link_model.specs.ClassFiles.{text_in, class_name_in, selector_in, this_name, super_name}
 use Rattle.program_model.specs.Instructions.{index_operand}
 use Rattle.link_model.specs.Linking.{declared_of, in_class, own_fields, own_method}
 use Rattle.class_grammar.specs.Flags.{is_static}
-use Rattle.linker_classes.specs.FirstPlan.{first_plan}
 use Rattle.linker_classes.specs.declared.outline.Outline.{Outline}
 use Rattle.linker_classes.specs.declared.constants.TheConstants.{LOAD_CONSTANT, INVOKE_STATIC}
 use Rattle.std.specs.Option.{option_map}
 
+-- no plan; nothing of an outline is sought in it
+abbrev pub no_plan : Plan
+no_plan = record { granules = 0; journal = 0; templates = []; classes = [] }
+
 -- the system of an outline
 abbrev pub system_of : Outline → System
-system_of o = record { plan = first_plan; program = record { classes = o.classes.now; methods = o.methods.now; selectors = o.selectors.now } }
+system_of o = record {
+  plan = no_plan;
+  program = record { classes = o.classes.now; methods = o.methods.now; selectors = o.selectors.now };
+}
 
 -- the number of the class of that name
 abbrev pub class_number : List Class → List ℕ → Option ℕ
@@ -66,10 +71,6 @@ meaning_at s f instrs index =
 abbrev pub meanings : System → ClassFile → List Instr → List Resolved
 meanings s f instrs = map (meaning_at s f instrs) (range_with_len 0 (length f.constants))
 
--- the instructions of the last method
-abbrev pub last_instrs : List Method → List Instr
-last_instrs methods = elim (slice_get methods (length methods - 1)) [ None ↦ [] | Some m ↦ m.instrs ]
-
 -- whether a field is one of the statics, or one of the others
 abbrev pub is_of_kind : Bool → Member → Bool
 is_of_kind statics m = if statics then is_static m.flags else not (is_static m.flags)
@@ -93,7 +94,3 @@ class_of_file classes f =
       flags = f.flags;
       constants = [];
     }
-
--- the classes without what their constants mean
-abbrev pub outlined_classes : List Class → ClassFile → List Class
-outlined_classes built_in f = built_in ++ class_of_file built_in f ∷ [] ++ array_class (codes "Ljava/lang/String;") ∷ [] ++ array_class (codes "Ljx/Memory;") ∷ []

@@ -1,2 +1,1 @@
-pub mod FirstPlan
 pub mod Classes

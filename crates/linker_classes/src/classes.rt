@@ -1,22 +1,14 @@
-//! The classes of a linked program.
-ghost use Rattle.std.specs.Prelude.{◌≡◌, ◌<◌, ◌^◌, [], ◌∷◌, length, map, IfOk};
-ghost use Rattle.first_class.specs.FirstClass.{first_class};
-ghost use Rattle.program_model.specs.BuiltIn.{built_in_table};
+//! The class of a class file.
+ghost use Rattle.std.specs.Prelude.{◌≡◌, ◌<◌, ◌^◌, length, map, IfOk};
 ghost use Rattle.std.specs.List.{filter_map};
 ghost use Rattle.link_model.specs.ClassFiles.{class_name_in};
-ghost use Rattle.link_model.specs.Linking.{declared_of, linked_system, outline};
-ghost use Rattle.linker_classes.specs.Classes.{class_id, class_of_file, last_instrs, outlined_classes};
-ghost use Rattle.linker_classes.specs.FirstPlan.{first_plan};
+ghost use Rattle.link_model.specs.Linking.{declared_of};
+ghost use Rattle.linker_classes.specs.Classes.{class_id, class_of_file};
 
-use crate::arrays::array_class;
-use crate::constants::meanings;
 use crate::fields::{layout, own_fields};
 use crate::names::{class_name_in, copy_of, super_name, this_name};
-use crate::outline::Outline;
 use crate::search::class_id;
-use jx_base::{
-    Class, ClassFile, ClassId, Declared, Instr, Listed, Member, Method, OutOfMemory, Selector,
-};
+use jx_base::{Class, ClassFile, ClassId, Declared, Listed, Member, OutOfMemory, Selector};
 use std::alloc::Global;
 
 #[tactic(auto, unfolding(link_model::specs::Linking::declared_of, link_model::specs::ClassFiles::member_selector))]
@@ -43,22 +35,14 @@ fn declared_methods(alloc: Global, members: &[Member]) -> Result<Listed<Declared
     Ok(Listed::from_vec(methods))
 }
 
-fn last_instrs(methods: &[Method]) -> &[Instr]
-    ensures { result.now ≡ last_instrs methods.now }
-{
-    match methods.last() {
-        Some(method) => method.instrs.as_slice(),
-        None => &[],
-    }
-}
-
 fn interface_ids(
     alloc: Global,
     classes: &[Class],
     file: &ClassFile,
 ) -> Result<Listed<ClassId>, OutOfMemory>
     requires { length classes.now < 2 ^ 32 }
-    ensures { IfOk result (λ ids. ids ≡ filter_map (λ i. class_id classes.now (class_name_in file.now i)) file.now.interfaces) }
+    ensures { IfOk result (λ ids.
+        ids ≡ filter_map (λ i. class_id classes.now (class_name_in file.now i)) file.now.interfaces) }
 {
     let mut ids = Vec::new(alloc);
     for index in file.interfaces.as_slice() {
@@ -69,8 +53,14 @@ fn interface_ids(
     Ok(Listed::from_vec(ids))
 }
 
+/// The class of a file whose number comes next behind these classes and whose super is one of them,
+/// without what its constants mean.
 #[tactic(auto, unfolding(crate::specs::Classes::class_of_file))]
-fn class_of_file(alloc: Global, classes: &[Class], file: &ClassFile) -> Result<Class, OutOfMemory>
+pub fn class_of_file(
+    alloc: Global,
+    classes: &[Class],
+    file: &ClassFile,
+) -> Result<Class, OutOfMemory>
     requires { length classes.now < 2 ^ 32 }
     ensures { IfOk result (λ class. class ≡ class_of_file classes.now file.now) }
 {
@@ -87,46 +77,4 @@ fn class_of_file(alloc: Global, classes: &[Class], file: &ClassFile) -> Result<C
         flags: file.flags,
         constants: Listed::from_vec(Vec::new(alloc)),
     })
-}
-
-fn outlined_classes(
-    alloc: Global,
-    built_in: Vec<Class>,
-    file: &ClassFile,
-) -> Result<Vec<Class>, OutOfMemory>
-    requires { length built_in.items < 2 ^ 32 }
-    ensures { IfOk result (λ classes. classes.items ≡ outlined_classes built_in.items file.now) }
-{
-    let class = class_of_file(alloc, built_in.as_slice(), file)?;
-    let mut classes = built_in;
-    classes.push(class)?;
-    classes.push(array_class(alloc, "Ljava/lang/String;")?)?;
-    classes.push(array_class(alloc, "Ljx/Memory;")?)?;
-    Ok(classes)
-}
-
-/// All classes: the built-in ones, that of the file, and the array classes of strings and of memory objects.
-pub fn linked_classes(
-    alloc: Global,
-    built_in: Vec<Class>,
-    file: &ClassFile,
-    methods: &[Method],
-    selectors: &[Selector],
-) -> Result<Vec<Class>, OutOfMemory>
-    requires built_in { built_in.items ≡ built_in_table }
-    requires file { file.now ≡ first_class }
-    requires methods { methods.now ≡ (outline first_plan (first_class ∷ [])).program.methods }
-    requires selectors { selectors.now ≡ (outline first_plan (first_class ∷ [])).program.selectors }
-    ensures { IfOk result (λ classes. classes.items ≡ (linked_system first_plan (first_class ∷ [])).program.classes) }
-{
-    let place = built_in.len();
-    let mut classes = outlined_classes(alloc, built_in, file)?;
-    let outline = Outline {
-        classes: classes.as_slice(),
-        methods,
-        selectors,
-    };
-    let constants = meanings(alloc, &outline, file, last_instrs(methods))?;
-    classes[place].constants = constants;
-    Ok(classes)
 }

@@ -1,4 +1,4 @@
-//! The classes of a linked program.
+//! The classes of a linked program, and what their constants mean.
 #![tactic(auto)]
 
 mod arrays;
@@ -9,4 +9,7 @@ mod names;
 mod outline;
 mod search;
 
-pub use classes::linked_classes;
+pub use arrays::array_class;
+pub use classes::class_of_file;
+pub use constants::meanings;
+pub use outline::Outline;

@@ -1,4 +1,3 @@
 pub mod KnownSelectors
 pub mod SourcesByClass
-pub mod KnownCode
-pub mod AllSources
+pub mod ReadSources

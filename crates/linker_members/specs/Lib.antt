@@ -1,1 +1,2 @@
+pub mod ReadCode
 pub mod Members

@@ -16,7 +16,8 @@ pub struct Source {
 }
 
 fn class_sources(alloc: Global, id: ClassId, class: &Class) -> Result<Vec<Source>, OutOfMemory>
-    ensures { IfOk result (λ sources. map source_of sources.items ≡ map (built_in_source id.0) class.now.methods) }
+    ensures { IfOk result (λ sources.
+        map source_of sources.items ≡ map (built_in_source id.0) class.now.methods) }
 {
     let mut sources = Vec::new(alloc);
     for method in class.methods.as_slice() {
@@ -42,7 +43,8 @@ fn built_in_sources(alloc: Global, classes: &[Class]) -> Result<Vec<Source>, Out
 }
 
 fn file_sources(alloc: Global, id: ClassId, file: &ClassFile) -> Result<Vec<Source>, OutOfMemory>
-    ensures { IfOk result (λ sources. map source_of sources.items ≡ map (file_source id.0) file.now.methods) }
+    ensures { IfOk result (λ sources.
+        map source_of sources.items ≡ map (file_source id.0) file.now.methods) }
 {
     let mut sources = Vec::new(alloc);
     for member in file.methods.as_slice() {
@@ -78,7 +80,10 @@ pub fn sources(
     files: &[ClassFile],
 ) -> Result<Vec<Source>, OutOfMemory>
     requires in_range { length built_in.now + length files.now < 2 ^ 32 }
-    ensures { IfOk result (λ xs. map source_of xs.items ≡ built_in_sources_from 0 built_in.now ++ file_sources_from (length built_in.now) files.now) }
+    ensures { IfOk result (λ xs.
+        map source_of xs.items
+        ≡ built_in_sources_from 0 built_in.now
+        ++ file_sources_from (length built_in.now) files.now) }
 {
     let mut sources = built_in_sources(alloc, built_in)?;
     sources.append(&mut sources_of_files(alloc, built_in.len(), files)?)?;

@@ -5,7 +5,6 @@ mod copies;
 mod declarations;
 mod linking;
 mod naming;
-mod reading;
 
 pub use declarations::{Source, sources};
 pub use linking::methods;

@@ -55,7 +55,7 @@ fn templates(
     Ok(templates)
 }
 
-/// The names of all classes, in the order in which the lists of classes first have them.
+// The names of all classes, in the order in which the lists of classes first have them.
 fn class_names<'a>(alloc: Global, domains: &[&'a Table]) -> Result<IndexSet<&'a str>, OutOfMemory>
     ensures { IfOk result (λ names. texts_at names.keys ≡ names_of_all (tables_at domains.now)) }
 {

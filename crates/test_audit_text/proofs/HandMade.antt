@@ -5,7 +5,7 @@ use Rattle.std.proofs.Common.{arith, subst, sym, inl}
 use Rattle.jx_base.specs.declared.act.Entry.{Entry}
 use Rattle.jx_base.specs.declared.act.History.{History}
 use Rattle.jx_base.specs.declared.program.System.{System}
-use Rattle.audit_text.specs.Rendering.{HasBuiltActs}
+use Rattle.audit_text.specs.Rendering.{HasSupportedActs}
 use Rattle.jx_model.specs.Legal.{IsAdmitted}
 use Rattle.opened_models.specs.Opened.{opened_model}
 use Rattle.test_audit_text.specs.HandMade.{small_template, small_system, plain_entry, odd_text, hand_made}
@@ -48,9 +48,9 @@ is_admitted s h p q =
     subst (λ (x : System). IsAdmitted x h) (sym p)
     (subst (λ (entries : List Entry). IsAdmitted small_system (record { entries = entries })) (sym q) admitted)
 
-built : HasBuiltActs made
+supported : HasSupportedActs made
 unfolding opened_model plain_entry hand_made
-built = (refl, (refl, (refl, (refl, (refl, (refl, (refl, (refl, tt))))))))
+supported = (refl, (refl, (refl, (refl, (refl, (refl, (refl, (refl, tt))))))))
 
-pub has_built_acts : (h : History) → h.entries ≡ hand_made → HasBuiltActs h
-has_built_acts h q = subst (λ (entries : List Entry). HasBuiltActs (record { entries = entries })) (sym q) built
+pub has_supported_acts : (h : History) → h.entries ≡ hand_made → HasSupportedActs h
+has_supported_acts h q = subst (λ (entries : List Entry). HasSupportedActs (record { entries = entries })) (sym q) supported

@@ -1,7 +1,5 @@
-//! Tests of audits and of the lines of printing.
+//! Tests of audits.
 #![tactic(auto)]
 
-#[cfg(test)]
-mod pages;
 #[cfg(test)]
 mod rendering;

@@ -7,11 +7,11 @@ use jx_top::{Request, jx_main, jx_serial, status_number};
 use std::alloc::Global;
 use std::test::Fail;
 
-/// The text of the class that prints `hi`.
+// The text of the class that prints `hi`.
 const HELLO: &str =
     "class 0x0021 Hello java/lang/Object\nmethod 0x0009 main ([Ljava/lang/String;)V 1 1\nldc string \"hi\"\ninvokestatic jx/Zero print (Ljava/lang/String;)V\nreturn\nend\n";
 
-/// A shelf of one file, `text`.
+// A shelf of one file, `text`.
 fn shelf(alloc: Global, text: &str) -> Result<MemoryShelf, OutOfMemory> {
     let file = (
         String::from_str(alloc, "text")?,

@@ -7,7 +7,7 @@ use jx_top::{jx_main, status_number};
 use std::alloc::Global;
 use std::test::Fail;
 
-/// The first bytes of the first class, and these behind them.
+// The first bytes of the first class, and these behind them.
 fn cut(alloc: Global, len: usize, more: &[u8]) -> Result<Vec<u8>, OutOfMemory> {
     let mut bytes = Vec::new(alloc);
     for byte in FIRST_CLASS.iter().take(len) {

@@ -4,7 +4,7 @@ use jx_base::{OutOfMemory, Text};
 use std::alloc::Global;
 use system_text::{PlanError, PlanFault, read_system};
 
-/// A word and a text, of which units beyond ASCII are written `#`.
+// A word and a text, of which units beyond ASCII are written `#`.
 fn said(alloc: Global, word: &str, text: &Text) -> Result<String, OutOfMemory> {
     let mut said = String::from_str(alloc, word)?;
     for unit in text.as_slice() {

@@ -20,7 +20,7 @@ pub fn push_domain(text: &mut String, values: [&str; 6]) -> Result<(), OutOfMemo
     Ok(())
 }
 
-/// The answer to a description of one domain of these values, with this line at its end.
+// The answer to a description of one domain of these values, with this line at its end.
 fn answer_to(alloc: Global, values: [&str; 6], line: &str) -> Result<String, OutOfMemory> {
     let mut text = String::from_str(alloc, "granules = 1\n")?;
     push_domain(&mut text, values)?;

@@ -7,7 +7,7 @@ use std::alloc::Global;
 use std::test::Fail;
 use system_text::{one_class, read_system};
 
-/// A description of so many domains.
+// A description of so many domains.
 fn many_domains(alloc: Global, count: u32) -> Result<String, OutOfMemory> {
     let mut text = String::from_str(alloc, "granules = 1\n")?;
     for number in 0..count {
@@ -17,7 +17,7 @@ fn many_domains(alloc: Global, count: u32) -> Result<String, OutOfMemory> {
     Ok(text)
 }
 
-/// A list of the classes `C` with these numbers.
+// A list of the classes `C` with these numbers.
 fn classes(alloc: Global, from: u32, to: u32) -> Result<String, OutOfMemory> {
     let mut list = String::from_str(alloc, "[")?;
     for number in from..to {

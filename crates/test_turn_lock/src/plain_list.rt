@@ -9,7 +9,7 @@ use jx_base::{
 use std::alloc::{AllocError, Global};
 use std::marker::Model;
 
-/// The list takes no more entries than these.
+// The list takes no more entries than these.
 const MOST: usize = 1000;
 
 /// A list of entries beside a system.

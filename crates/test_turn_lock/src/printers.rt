@@ -12,7 +12,7 @@ use std::thread;
 use std::thread::Threads;
 use turn_lock::{Pass, Turn};
 
-/// How many prints each domain makes.
+// How many prints each domain makes.
 const PRINTS: u16 = 100;
 
 /// The pass's domain makes a domain.

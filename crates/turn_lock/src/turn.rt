@@ -17,10 +17,10 @@ use std::marker::Model;
 use std::mem;
 use std::sync::Wait;
 
-/// The word that counts the tickets drawn.
+// The word that counts the tickets drawn.
 const DRAWN: usize = 0;
 
-/// The word that counts the tickets served.
+// The word that counts the tickets served.
 const SERVED: usize = 1;
 
 /// A lock round a value that lists what was done. Passes take turns in the order of their tickets.

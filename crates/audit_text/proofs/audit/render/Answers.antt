@@ -1,5 +1,5 @@
 use Rattle.std.proofs.lemmas.Result.{err_from_is_err_and}
-use Rattle.audit_text.proofs.Writing.{puts_new_page, puts_new_page_stopped}
+use Rattle.page_text.proofs.Writing.{puts_new_page, puts_new_page_stopped}
 use Rattle.audit_text.proofs.audit.render.Goals as goal
 
 pub returns-in_err-write_audit : goal.returns-in_err-write_audit

@@ -1,7 +1,7 @@
 use Rattle.std.proofs.lemmas.Result.{err_from_is_err_and}
-use Rattle.audit_text.specs.Pieces.{piece_text}
-use Rattle.audit_text.proofs.Writing.{writes_then, writes_stop}
-use Rattle.audit_text.proofs.Parts.{lines_after-parts}
+use Rattle.page_text.specs.Pieces.{piece_text}
+use Rattle.page_text.proofs.Writing.{writes_then, writes_stop}
+use Rattle.audit_text.proofs.AuditParts.{lines_after-parts}
 use Rattle.audit_text.proofs.audit.write_after.Goals as goal
 
 pub returns-in_err-write_line : goal.returns-in_err-write_line

@@ -1,20 +1,20 @@
 use Rattle.std.proofs.lemmas.Result.{err_from_is_err_and}
 use Rattle.jx_base.specs.Histories.{past_of}
-use Rattle.audit_text.specs.Pieces.{piece_text}
-use Rattle.audit_text.proofs.Built.{entries_built}
-use Rattle.audit_text.proofs.Writing.{writes_then, writes_stop}
-use Rattle.audit_text.proofs.Parts.{audit_text-parts}
+use Rattle.page_text.specs.Pieces.{piece_text}
+use Rattle.audit_text.proofs.SupportedActs.{entries_supported}
+use Rattle.page_text.proofs.Writing.{writes_then, writes_stop}
+use Rattle.audit_text.proofs.AuditParts.{audit_text-parts}
 use Rattle.audit_text.proofs.audit.write_audit.Goals as goal
 
 pub write_entries-requires : goal.write_entries-requires
-write_entries-requires g c = rw c.as_slice-entries.ensures (entries_built c.args.system.now c.args.history.now c.requires.admitted c.requires.built)
+write_entries-requires g c = rw c.as_slice-entries.ensures (entries_supported c.args.system.now c.args.history.now c.requires.admitted c.requires.supported)
 
 pub write_after-requires-clause-admitted : goal.write_after-requires-clause-admitted
 unfolding past_of
 write_after-requires-clause-admitted g c = rw c.as_slice-entries.ensures c.requires.admitted
 
-pub write_after-requires-clause-built : goal.write_after-requires-clause-built
-write_after-requires-clause-built g c = rw c.as_slice-entries.ensures (entries_built c.args.system.now c.args.history.now c.requires.admitted c.requires.built)
+pub write_after-requires-clause-supported : goal.write_after-requires-clause-supported
+write_after-requires-clause-supported g c = rw c.as_slice-entries.ensures (entries_supported c.args.system.now c.args.history.now c.requires.admitted c.requires.supported)
 
 pub returns-in_err-write_line : goal.returns-in_err-write_line
 unfolding piece_text

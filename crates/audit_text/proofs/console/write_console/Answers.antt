@@ -1,7 +1,7 @@
 use Rattle.std.proofs.Common.{arith}
 use Rattle.std.proofs.lemmas.Result.{err_from_is_err_and}
 use Rattle.audit_model.specs.AuditText.{console_line}
-use Rattle.audit_text.proofs.Writing.{item_goes_on, item_stops, items_end}
+use Rattle.page_text.proofs.Writing.{item_goes_on, item_stops, items_end}
 use Rattle.audit_text.proofs.console.write_console.Goals as goal
 
 pub returns-in_err-write_printed : goal.returns-in_err-write_printed

@@ -2,7 +2,7 @@ use Rattle.std.proofs.Common.{List, reverse, sym, ◌∙◌, ap, refl, arith}
 use Rattle.std.proofs.lemmas.List.{take_all}
 use Rattle.jx_base.specs.declared.act.Entry.{Entry}
 use Rattle.jx_model.specs.Domains.{end_reason}
-use Rattle.audit_text.proofs.Built.{end_reason-found, end_reason-same}
+use Rattle.audit_text.proofs.SupportedActs.{end_reason-found, end_reason-same}
 use Rattle.audit_text.proofs.domains.end_reason.Goals as goal
 use Rattle.audit_text.proofs.domains.end_reason.Goals.{in-Some, in_default}
 

@@ -1,5 +1,5 @@
 use Rattle.std.proofs.Common.{sym, ◌∙◌, arith}
-use Rattle.audit_text.proofs.Built.{reason_for-own, reason_for-other}
+use Rattle.audit_text.proofs.SupportedActs.{reason_for-own, reason_for-other}
 use Rattle.audit_text.proofs.domains.reason_of.Goals as goal
 
 pub returns-then-from-domain : goal.returns-then-from-domain

@@ -1,6 +1,6 @@
 use Rattle.std.proofs.lemmas.Result.{err_from_is_err_and}
 use Rattle.audit_text.specs.Rendering.{whole_line}
-use Rattle.audit_text.proofs.Writing.{writes_then, writes_stop}
+use Rattle.page_text.proofs.Writing.{writes_then, writes_stop}
 use Rattle.audit_text.proofs.domains.write_domain.Goals as goal
 
 pub returns-in_err-write_origin : goal.returns-in_err-write_origin

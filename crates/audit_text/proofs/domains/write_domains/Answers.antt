@@ -1,7 +1,7 @@
 use Rattle.std.proofs.Common.{◌+◌, sym, ◌∙◌, arith, reverse}
 use Rattle.std.proofs.lemmas.List.{drop_all}
 use Rattle.std.proofs.lemmas.Result.{err_from_is_err_and}
-use Rattle.audit_text.proofs.Writing.{writes_as, completes_more, completes_same, completes_stop, completes_end}
+use Rattle.page_text.proofs.Writing.{writes_as, completes_more, completes_same, completes_stop, completes_end}
 use Rattle.audit_text.proofs.BirthLines.{born-more, born-same, born-end, line_after, line_after-is, domain_lines-born}
 use Rattle.audit_text.proofs.domains.write_domains.Goals as goal
 use Rattle.audit_text.proofs.domains.write_domains.Goals.{in-Some+in_ok-write_domain, in_default}

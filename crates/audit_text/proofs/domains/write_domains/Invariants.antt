@@ -1,7 +1,6 @@
 use Rattle.std.proofs.Common.{◌≤◌, drop, reverse}
-use Rattle.audit_text.specs.Writes.{output}
 use Rattle.audit_text.proofs.BirthLines.{born, line_after}
-use Rattle.audit_text.proofs.Writing.{Completes}
+use Rattle.page_text.proofs.Writing.{Completes}
 use Rattle.audit_text.proofs.domains.write_domains.Given as goal
 
 abbrev pub invariant-loop-entry : goal.invariant-loop-entry
@@ -10,6 +9,6 @@ invariant-loop-entry g l = record {
   lines : Completes
       (born (line_after l.system (reverse l.entries)) l.domains (drop l.entry-index l.entries))
       (born (line_after l.system (reverse l.entries)) 0 l.entries)
-      (output (g.K.Sink.told l.initial.sink) l.initial.page (g.K.Sink.faults l.initial.sink))
-      (output (g.K.Sink.told l.sink) l.page (g.K.Sink.faults l.sink));
+      (l.initial.page, g.K.Sink.state l.initial.sink)
+      (l.page, g.K.Sink.state l.sink);
 }

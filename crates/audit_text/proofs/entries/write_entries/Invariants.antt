@@ -1,7 +1,6 @@
 use Rattle.std.proofs.Common.{◌≡◌, ◌+◌, drop}
 use Rattle.audit_model.specs.AuditText.{entry_lines}
-use Rattle.audit_text.specs.Writes.{output}
-use Rattle.audit_text.proofs.Writing.{Completes}
+use Rattle.page_text.proofs.Writing.{Completes}
 use Rattle.audit_text.proofs.entries.write_entries.Given as goal
 
 abbrev pub invariant-loop-entry : goal.invariant-loop-entry
@@ -10,6 +9,6 @@ invariant-loop-entry g l = record {
   lines : Completes
       (entry_lines l.system (l.n + 1) (drop l.entry-index l.entries))
       (entry_lines l.system 1 l.entries)
-      (output (g.K.Sink.told l.initial.sink) l.initial.page (g.K.Sink.faults l.initial.sink))
-      (output (g.K.Sink.told l.sink) l.page (g.K.Sink.faults l.sink));
+      (l.initial.page, g.K.Sink.state l.initial.sink)
+      (l.page, g.K.Sink.state l.sink);
 }

@@ -1,6 +1,6 @@
 use Rattle.std.proofs.lemmas.Result.{err_from_is_err_and}
-use Rattle.audit_text.proofs.Writing.{writes_then, writes_stop}
-use Rattle.audit_text.proofs.Lines.{entry_line-parts}
+use Rattle.page_text.proofs.Writing.{writes_then, writes_stop}
+use Rattle.audit_text.proofs.EntryLines.{entry_line-parts}
 use Rattle.audit_text.proofs.entries.write_entry.Goals as goal
 
 pub returns-in_err-write_actor : goal.returns-in_err-write_actor

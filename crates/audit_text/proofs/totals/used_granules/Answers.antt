@@ -11,7 +11,7 @@ pub loop-entry-init : goal.loop-entry-init
 loop-entry-init c = record {
   few = omega arith;
   sum = omega arith;
-  small = omega (arith, births_few c.args.system.now c.args.entries.now c.requires.admitted c.requires.built);
+  small = omega (arith, births_few c.args.system.now c.args.entries.now c.requires.admitted c.requires.supported);
 }
 
 pub overflow_add-used : goal.overflow_add-used
@@ -46,5 +46,5 @@ returns c =
     let after = granules_after c.args.system.now (reverse c.args.entries.now) in
     let none = born-end after c.loop-entry.domains c.loop-entry.entry-index c.args.entries.now (drop_all c.loop-entry.entry-index c.args.entries.now (omega arith)) in
     let rest = ap total none ∙ total-none in
-    let used = used-born c.args.system.now c.args.entries.now c.requires.built in
+    let used = used-born c.args.system.now c.args.entries.now c.requires.supported in
     omega arith

@@ -1,9 +1,9 @@
 use Rattle.std.proofs.Common.{sym}
-use Rattle.audit_text.proofs.LastEntry.{before_last-reverse, before_last-none, front_built}
+use Rattle.audit_text.proofs.LastEntry.{before_last-reverse, before_last-none, front_supported}
 use Rattle.audit_text.proofs.totals.words_before_last.Goals as goal
 
-pub words_of-requires-clause-built : goal.words_of-requires-clause-built
-words_of-requires-clause-built c = (front_built c.args.entries.now c.in-Some.front.now c.in-Some.field-0-0.now c.in-Some.ensures.cases.0 c.requires.built).0
+pub words_of-requires-clause-supported : goal.words_of-requires-clause-supported
+words_of-requires-clause-supported c = (front_supported c.args.entries.now c.in-Some.front.now c.in-Some.field-0-0.now c.in-Some.ensures.cases.0 c.requires.supported).0
 
 pub words_of-requires-clause-small : goal.words_of-requires-clause-small
 words_of-requires-clause-small c = rw (before_last-reverse c.args.entries.now c.in-Some.front.now c.in-Some.field-0-0.now c.in-Some.ensures.cases.0) at c.requires.small

@@ -3,7 +3,7 @@ use Rattle.std.proofs.lemmas.List.{drop_all}
 use Rattle.jx_model.specs.Journal.{entry_words}
 use Rattle.audit_text.proofs.Sums.{entry_sum-more, entry_sum-end, entry_sum-reverse}
 use Rattle.audit_text.proofs.JournalWords.{words-sum}
-use Rattle.audit_text.proofs.Lines.{entry_built}
+use Rattle.audit_text.proofs.EntryLines.{entry_supported}
 use Rattle.audit_text.proofs.totals.words_of.Goals as goal
 
 pub entry_words-words-requires-clause-small : goal.entry_words-words-requires-clause-small
@@ -13,8 +13,8 @@ entry_words-words-requires-clause-small c =
     let turned = entry_sum-reverse entry_words c.args.entries.now in
     omega arith
 
-pub entry_words-words-requires-clause-built : goal.entry_words-words-requires-clause-built
-entry_words-words-requires-clause-built c = entry_built c.args.entries.now c.loop-entry.entry-index c.entry-item.result c.requires.built c.entry-item.is (omega arith)
+pub entry_words-words-requires-clause-supported : goal.entry_words-words-requires-clause-supported
+entry_words-words-requires-clause-supported c = entry_supported c.args.entries.now c.loop-entry.entry-index c.entry-item.result c.requires.supported c.entry-item.is (omega arith)
 
 pub returns : goal.returns
 returns c =

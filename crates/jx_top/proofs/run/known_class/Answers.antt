@@ -1,7 +1,8 @@
-use Rattle.jx_top.proofs.Accepted.{first_is}
+use Rattle.std.proofs.Common.{refl}
+use Rattle.jx_top.proofs.FirstFile.{first_is}
 use Rattle.jx_top.proofs.run.known_class.Goals as goal
 
-pub returns-then-branch : goal.returns-then-branch
-returns-then-branch c =
-    let known = c.in_ok-is_known-in-Ok.ensures.0 c.if-branch.true in
-    (known, first_is c.args.bytes.now c.in-Ok.file known.0 c.in-Ok.ensures)
+pub returns-then-is_first : goal.returns-then-is_first
+returns-then-is_first c =
+    let first = c.if-is_first.ensures.0 refl in
+    (first_is c.args.bytes.now c.in-Ok.class first.bytes_are c.in-Ok.ensures, first)

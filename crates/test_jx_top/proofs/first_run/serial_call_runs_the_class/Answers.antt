@@ -1,7 +1,7 @@
 use Rattle.std.proofs.Common.{◌≡◌, ℕ, List, refl, arith, subst, sym}
 use Rattle.std.specs.Prelude.{codes}
 use Rattle.jx_base.specs.ClassNames.{is_name_byte, has_filled_parts, is_reserved, is_class_name}
-use Rattle.jx_top.specs.Words.{IsFileOf, IsClassFileName}
+use Rattle.jx_top.specs.Commands.{IsFileOf, IsClassFileName}
 use Rattle.test_jx_top.proofs.first_run.serial_call_runs_the_class.Goals as goal
 
 is_file_of : IsFileOf (codes "Hello.class") (codes "Hello")

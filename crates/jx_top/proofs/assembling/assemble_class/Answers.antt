@@ -1,0 +1,8 @@
+use Rattle.jx_top.proofs.CommandSteps.{put_puts}
+use Rattle.jx_top.proofs.assembling.assemble_class.Goals as goal
+
+pub returns-in-Ok-clause-puts : goal.returns-in-Ok-clause-puts
+returns-in-Ok-clause-puts g c =
+    let found = rw c.in-Ok.is at c.assemble_file.ensures.bytes in
+    put_puts _ _ _ (g.K.Sink.state c.args.sink.now) (g.K.Sink.state c.put_class_file.new.sink) _ found
+    (rw c.deref.ensures.value at c.put_class_file.ensures.puts)

@@ -1,0 +1,23 @@
+-- The text of a piece.
+use Rattle.std.specs.Prelude.{ℕ, List, map, decimal}
+use Rattle.std.specs.Fmt.{signed_decimal}
+use Rattle.jx_base.specs.Texts.{quoted, after_space, line}
+use Rattle.page_text.specs.declared.pieces.Piece.{Piece}
+use Rattle.page_text.specs.declared.pieces.Piece.TheVariants.{Plain, Number, Signed, Quoted}
+
+unfoldable pub piece_text : Piece → List ℕ
+piece_text (Plain text) = text.now
+piece_text (Number n) = decimal n
+piece_text (Signed n) = signed_decimal n
+piece_text (Quoted units) = quoted units.now
+
+abbrev pub piece_texts : List Piece → List (List ℕ)
+piece_texts pieces = map piece_text pieces
+
+-- a piece behind a space
+abbrev pub spaced_piece : Piece → List ℕ
+spaced_piece piece = after_space (piece_text piece)
+
+-- a line whose words are these pieces
+abbrev pub line_of : List Piece → List ℕ
+line_of pieces = line (piece_texts pieces)
