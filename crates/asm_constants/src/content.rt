@@ -57,10 +57,7 @@ pub(crate) fn pair_content(
 ) -> Result<Content, OutOfMemory>
     ensures { IfOk result (λ content. content ≡ Content.NameAndType name.now descriptor.now) }
 {
-    Ok(Content::NameAndType(
-        name.copy(alloc)?,
-        descriptor.copy(alloc)?,
-    ))
+    Ok(Content::NameAndType(name.copy(alloc)?, descriptor.copy(alloc)?))
 }
 
 impl Reference {
@@ -127,10 +124,7 @@ impl Content {
             Content::Class(name) => Content::Class(name.copy(alloc)?),
             Content::Str(units) => Content::Str(units.copy(alloc)?),
             Content::NameAndType(name, descriptor) => {
-                Content::NameAndType(
-                    name.copy(alloc)?,
-                    descriptor.copy(alloc)?,
-                )
+                Content::NameAndType(name.copy(alloc)?, descriptor.copy(alloc)?)
             }
             Content::Member(kind, class, name, descriptor) => Content::Member(
                 *kind,

@@ -34,7 +34,8 @@ fn greatest_key(low: i32, more: usize) -> Result<i32, LineError>
     let Ok(more) = u32::try_from(more) else {
         return Err(LineError::Bad(Malformed));
     };
-    low.checked_add_unsigned(more).ok_or(LineError::Bad(Malformed))
+    low.checked_add_unsigned(more)
+        .ok_or(LineError::Bad(Malformed))
 }
 
 // The padding, and the default.
