@@ -103,8 +103,3 @@ unfoldable pub first_far : List Line → Option ℕ
 first_far [] = None
 first_far (l ∷ lines) =
     option_map suc (if is_method l then option_or (first_far_in (body_of lines)) (first_far lines) else first_far lines)
-
--- what a computed row opens
-unfoldable pub opened_bodies : Unit {0}
-unfolding goes_on open_body ends body_of is_label has_label pc_behind line_marks marks_from marks_of mark_of is_near is_far_operand is_far first_far_from first_far_in first_far
-opened_bodies = tt

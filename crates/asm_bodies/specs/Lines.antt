@@ -37,8 +37,3 @@ count_of test lines = length (filter test lines)
 
 unfoldable pub is_member : Line → Bool
 is_member l = is_abstract l || is_method l
-
--- what a computed row opens
-unfoldable pub opened_kinds : Unit {0}
-unfolding is_class is_implements is_field is_abstract is_step is_catch is_method count_of is_member
-opened_kinds = tt

@@ -79,8 +79,3 @@ instruction_length pc i = opcode_length i.wide + sum_by (operand_length pc) i.op
 unfoldable pub line_length : ℕ → Line → ℕ
 line_length pc (line.Instruction i) = instruction_length pc i
 line_length pc _ = 0
-
--- what a computed row opens
-unfoldable pub opened_needs : Unit {0}
-unfolding operand_contents member_contents method_contents caught_contents line_contents with_all_needed pool_of operand_length opcode_length instruction_length line_length
-opened_needs = tt

@@ -4,9 +4,8 @@ ghost use Rattle.asm_bodies.specs.Bodies.{body_of, line_marks, marks_of, mark_of
 
 use crate::lengths::{line_length, sum};
 use asm_lines::Line;
-use asm_words::Units;
 use indexmap::IndexMap;
-use jx_base::OutOfMemory;
+use jx_base::{OutOfMemory, Text};
 use std::alloc::Global;
 use std::marker::Model;
 
@@ -38,7 +37,7 @@ pub fn body_of(lines: &[Line]) -> &[Line]
 /// The labels of a body and their pcs.
 #[derive(Drop)]
 pub struct Marks {
-    pcs: IndexMap<Units, usize>,
+    pcs: IndexMap<Text, usize>,
 }
 
 impl Model for Marks {
@@ -60,20 +59,20 @@ impl Marks {
     }
 
     /// The pc of a label.
-    pub fn pc_of(&self, name: &Units) -> Option<usize>
+    pub fn pc_of(&self, name: &Text) -> Option<usize>
         ensures { result ≡ mark_of self.now name.now }
     {
         self.pcs.get(name).copied()
     }
 
     // Adds a label, unless one of that name is there.
-    fn add(&mut self, alloc: Global, name: &Units, pc: usize) -> Result<(), OutOfMemory>
+    fn add(&mut self, alloc: Global, name: &Text, pc: usize) -> Result<(), OutOfMemory>
         ensures { OnOk result ((other : List ℕ) → mark_of self.new other ≡ mark_of (self.old ++ record { name = name.now; pc = pc } ∷ []) other) }
     {
         if self.pcs.contains_key(name) {
             return Ok(());
         }
-        let name = Units::from_slice(alloc, name.as_slice())?;
+        let name = name.copy(alloc)?;
         self.pcs.insert(name, pc)?;
         Ok(())
     }

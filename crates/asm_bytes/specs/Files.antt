@@ -128,8 +128,3 @@ file_with pool lines =
 -- the class file of all lines
 unfoldable pub file_bytes : List Line → List ℕ
 file_bytes lines = file_with (pool_of (reverse lines)) lines
-
--- what a computed row opens
-unfoldable pub opened_files : Unit {0}
-unfolding pc_of distance operand_bytes opcode_bytes instruction_bytes line_bytes code_from class_index catch_bytes code_attribute code_bytes member_bytes field_bytes method_bytes methods_bytes heading_bytes interface_bytes version_bytes constants_bytes file_with file_bytes
-opened_files = tt

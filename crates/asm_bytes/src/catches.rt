@@ -12,8 +12,7 @@ use crate::numbers::push_two;
 use asm_bodies::Marks;
 use asm_constants::Pool;
 use asm_lines::{Catch, Line};
-use asm_words::Units;
-use jx_base::OutOfMemory;
+use jx_base::{OutOfMemory, Text};
 use std::alloc::Global;
 
 // The index of the class that is caught, and 0 where all are.
@@ -22,7 +21,7 @@ fn push_caught(
     alloc: Global,
     bytes: &mut Vec<u8>,
     pool: &Pool,
-    class: &Option<Units>,
+    class: &Option<Text>,
 ) -> Result<(), OutOfMemory>
     ensures { OnOk result (bytes.new.items ≡ bytes.old.items ++ two_bytes (class_index pool.now class.now)) }
 {

@@ -7,8 +7,7 @@ use crate::numbers::{push_four, push_two};
 use asm_bodies::{Marks, line_length, sum};
 use asm_constants::Pool;
 use asm_lines::{Instruction, Line, Operand};
-use asm_words::Units;
-use jx_base::OutOfMemory;
+use jx_base::{OutOfMemory, Text};
 use std::alloc::Global;
 
 const WIDE: u8 = 0xc4;
@@ -17,7 +16,7 @@ const ZEROS: [u8; 3] = [0; 3];
 
 /// The pc of a label, and 0 where it isn't there.
 #[tactic(auto, unfolding(crate::specs::Files::pc_of))]
-pub fn pc_of(marks: &Marks, label: &Units) -> usize
+pub fn pc_of(marks: &Marks, label: &Text) -> usize
     ensures { result ≡ pc_of marks.now label.now }
 {
     marks.pc_of(label).unwrap_or(0)

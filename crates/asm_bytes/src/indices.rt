@@ -5,8 +5,7 @@ ghost use Rattle.asm_constants.specs.declared.content.Content.TheVariants.{Class
 
 use crate::numbers::push_two;
 use asm_constants::{Content, Pool};
-use asm_words::Units;
-use jx_base::OutOfMemory;
+use jx_base::{OutOfMemory, Text};
 use std::alloc::Global;
 
 /// Puts the index of a class behind the others.
@@ -14,11 +13,11 @@ pub fn push_class(
     alloc: Global,
     bytes: &mut Vec<u8>,
     pool: &Pool,
-    name: &Units,
+    name: &Text,
 ) -> Result<(), OutOfMemory>
     ensures { OnOk result (bytes.new.items ≡ bytes.old.items ++ two_bytes (index_of pool.now (Class name.now))) }
 {
-    let name = Units::from_slice(alloc, name.as_slice())?;
+    let name = name.copy(alloc)?;
     push_two(bytes, pool.index(&Content::Class(name)))
 }
 
@@ -31,6 +30,6 @@ pub fn push_text(
 ) -> Result<(), OutOfMemory>
     ensures { OnOk result (bytes.new.items ≡ bytes.old.items ++ two_bytes (index_of pool.now (Utf8 text.now))) }
 {
-    let text = Units::from_slice(alloc, text)?;
+    let text = Text::from_slice(alloc, text)?;
     push_two(bytes, pool.index(&Content::Utf8(text)))
 }

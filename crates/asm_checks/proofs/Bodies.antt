@@ -8,16 +8,13 @@ use Rattle.asm_lines.specs.declared.line.Line.TheVariants as line
 use Rattle.asm_bodies.specs.Needs.{line_length}
 use Rattle.asm_bodies.specs.Lines.{count_of}
 use Rattle.asm_bodies.specs.Bodies.{body_of, ends, goes_on, has_label, is_label, pc_behind}
-
-or_nothing : (a : Bool) → (a || false) ≡ a
-or_nothing true = refl
-or_nothing false = refl
+use Rattle.std.proofs.Math.Bool.{or-false}
 
 -- ---- the labels of lines and one more
 
 pub label_last : (name : List ℕ) (lines : List Line) (l : Line) → has_label name (lines ++ l ∷ []) ≡ (has_label name lines || is_label name l)
 unfolding has_label
-label_last name lines l = list_any-append (is_label name) lines (l ∷ []) ∙ ap (λ b. list_any (is_label name) lines || b) (or_nothing (is_label name l))
+label_last name lines l = list_any-append (is_label name) lines (l ∷ []) ∙ ap (λ b. list_any (is_label name) lines || b) (or-false (is_label name l))
 
 -- a line behind which a body goes on isn't its end
 pub body_goes_on : (l : Line) (after : List Line) → goes_on l ≡ true → body_of (l ∷ after) ≡ l ∷ body_of after

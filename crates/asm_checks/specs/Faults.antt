@@ -166,8 +166,3 @@ fault_or before (Some kind) later = Some (before, kind)
 unfoldable pub first_fault : List Line → List Line → Option (ℕ × AsmKind)
 first_fault past [] = fault_or (length past) (end_fault past) None
 first_fault past (l ∷ after) = fault_or (length past) (kind_at past l after) (first_fault (l ∷ past) after)
-
--- what a computed row opens
-unfoldable pub opened_faults : Unit {0}
-unfolding is_index_over has_index_over target_labels used_labels stands_in is_there is_lost lines_in body_behind is_twice is_skipped last_said is_inside may_follow may_come_next is_in_place is_complete may_end counts_after is_too_much is_over own_fault kind_at end_fault fault_or first_fault
-opened_faults = tt

@@ -10,8 +10,7 @@ use crate::counts::counted;
 use crate::follows::is_catch;
 use asm_bodies::{body_of, line_length, sum};
 use asm_lines::Line;
-use asm_words::Units;
-use jx_base::OutOfMemory;
+use jx_base::{OutOfMemory, Text};
 use std::alloc::Global;
 use std::collections::HashSet;
 
@@ -20,28 +19,28 @@ use std::collections::HashSet;
 pub struct Body {
     pub pc: usize,
     pub catches: usize,
-    pub seen: HashSet<Units>,
-    pub whole: HashSet<Units>,
+    pub seen: HashSet<Text>,
+    pub whole: HashSet<Text>,
 }
 
 // The labels with that of the line, if it is one.
 #[tactic(auto, unfolding(asm_bodies::specs::Bodies::is_label))]
 fn with_label(
     alloc: Global,
-    labels: HashSet<Units>,
+    labels: HashSet<Text>,
     line: &Line,
-) -> Result<HashSet<Units>, OutOfMemory>
+) -> Result<HashSet<Text>, OutOfMemory>
     ensures { IfOk result (λ new. (name : List ℕ) → contains bytes_eq new name ≡ (contains bytes_eq labels name || is_label name line.now)) }
 {
     let mut labels = labels;
     if let Line::Label(name) = line {
-        labels.insert(Units::from_slice(alloc, name.as_slice())?)?;
+        labels.insert(name.copy(alloc)?)?;
     }
     Ok(labels)
 }
 
 // The labels of a body.
-fn labels_of(alloc: Global, body: &[Line]) -> Result<HashSet<Units>, OutOfMemory>
+fn labels_of(alloc: Global, body: &[Line]) -> Result<HashSet<Text>, OutOfMemory>
     ensures { IfOk result (λ labels. (name : List ℕ) → contains bytes_eq labels name ≡ has_label name body.now) }
 {
     let mut labels = HashSet::new(alloc);

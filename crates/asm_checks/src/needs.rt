@@ -6,8 +6,7 @@ ghost use Rattle.asm_bodies.specs.Needs.{line_contents, member_contents, method_
 
 use asm_constants::{Content, Pool};
 use asm_lines::{Line, Member, Operand};
-use asm_words::Units;
-use jx_base::OutOfMemory;
+use jx_base::{OutOfMemory, Text};
 use std::alloc::Global;
 
 const CODE: [u16; 4] = [0x43, 0x6f, 0x64, 0x65];
@@ -37,17 +36,17 @@ pub fn add_needed(pool: &mut Pool, alloc: Global, line: &Line) -> Result<(), Out
     }
 }
 
-fn add_class(pool: &mut Pool, alloc: Global, name: &Units) -> Result<(), OutOfMemory>
+fn add_class(pool: &mut Pool, alloc: Global, name: &Text) -> Result<(), OutOfMemory>
     ensures { OnOk result (pool.new ≡ with_needed pool.old (Class name.now)) }
 {
-    let name = Units::from_slice(alloc, name.as_slice())?;
+    let name = name.copy(alloc)?;
     pool.add(alloc, &Content::Class(name))
 }
 
 fn add_text(pool: &mut Pool, alloc: Global, text: &[u16]) -> Result<(), OutOfMemory>
     ensures { OnOk result (pool.new ≡ with_needed pool.old (Utf8 text.now)) }
 {
-    let text = Units::from_slice(alloc, text)?;
+    let text = Text::from_slice(alloc, text)?;
     pool.add(alloc, &Content::Utf8(text))
 }
 
@@ -71,7 +70,7 @@ fn add_method(pool: &mut Pool, alloc: Global, member: &Member) -> Result<(), Out
 
 // The class that a catch names, if it names one.
 #[tactic(auto, unfolding(asm_bodies::specs::Needs::caught_contents, asm_bodies::specs::Needs::with_all_needed))]
-fn add_caught(pool: &mut Pool, alloc: Global, class: &Option<Units>) -> Result<(), OutOfMemory>
+fn add_caught(pool: &mut Pool, alloc: Global, class: &Option<Text>) -> Result<(), OutOfMemory>
     ensures { OnOk result (pool.new ≡ with_all_needed pool.old (caught_contents class.now)) }
 {
     match class {

@@ -7,7 +7,7 @@ ghost use Rattle.asm_checks.specs.Faults.{is_index_over, has_index_over, target_
 
 use asm_constants::Pool;
 use asm_lines::{Line, Operand};
-use asm_words::Units;
+use jx_base::Text;
 use std::collections::HashSet;
 
 // Whether the operand's constant has an index above what a byte says.
@@ -40,7 +40,7 @@ pub fn has_index_over(pool: &Pool, line: &Line) -> bool
 
 // Whether the operand's label, if it has one, is among those.
 #[tactic(auto, unfolding(crate::specs::Faults::target_labels))]
-fn is_among(labels: &HashSet<Units>, operand: &Operand) -> bool
+fn is_among(labels: &HashSet<Text>, operand: &Operand) -> bool
     ensures { result ≡ list_all (contains bytes_eq labels.now) (target_labels operand.now) }
 {
     match operand {
@@ -49,7 +49,7 @@ fn is_among(labels: &HashSet<Units>, operand: &Operand) -> bool
     }
 }
 
-fn are_among(labels: &HashSet<Units>, operands: &[Operand]) -> bool
+fn are_among(labels: &HashSet<Text>, operands: &[Operand]) -> bool
     ensures { result ≡ list_all (λ operand. list_all (contains bytes_eq labels.now) (target_labels operand)) operands.now }
 {
     operands.iter().all(|operand| is_among(labels, operand))
@@ -57,7 +57,7 @@ fn are_among(labels: &HashSet<Units>, operands: &[Operand]) -> bool
 
 /// Whether all labels that the line uses are among those.
 #[tactic(auto, using(crate::proofs::Lists::all_joined), unfolding(crate::specs::Faults::used_labels))]
-pub fn uses_only(labels: &HashSet<Units>, line: &Line) -> bool
+pub fn uses_only(labels: &HashSet<Text>, line: &Line) -> bool
     ensures { result ≡ list_all (contains bytes_eq labels.now) (used_labels line.now) }
 {
     match line {

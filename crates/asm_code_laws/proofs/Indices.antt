@@ -14,6 +14,7 @@ use Rattle.asm_lines.specs.declared.line.Operand.TheVariants as operand
 use Rattle.asm_bodies.specs.Needs.{operand_contents, line_contents, with_all_needed, pool_of}
 use Rattle.asm_checks.specs.Faults.{is_index_over, has_index_over}
 use Rattle.asm_laws.proofs.Soundness.{neither}
+use Rattle.jx_base.specs.Basics.{added, all_added}
 
 -- each constant of a pool is in another one, at the same index
 abbrev Keeps : List Content → List Content → Type 0
@@ -40,11 +41,11 @@ kept_with_more pool more c h =
     (list_any-append (same_content c) pool more ∙ or_left (list_any (same_content c) pool) (list_any (same_content c) more) h, index_kept 1 pool more c h)
 
 kept_with_new : (pool : List Content) (d : Content) → Keeps pool (with_new pool d)
-unfolding with_new
+unfolding added has_content
 kept_with_new pool d = elim (has_content pool d) as (λ b. Keeps pool (if b then pool else pool ++ d ∷ [])) [ true ↦ kept_itself pool | false ↦ kept_with_more pool (d ∷ []) ]
 
 kept_with_all_new : (pool contents : List Content) → Keeps pool (with_all_new pool contents)
-unfolding with_all_new
+unfolding all_added
 kept_with_all_new pool [] = kept_itself pool
 kept_with_all_new pool (d ∷ contents) =
     kept_further pool (with_new pool d) (with_all_new (with_new pool d) contents) (kept_with_new pool d) (kept_with_all_new (with_new pool d) contents)

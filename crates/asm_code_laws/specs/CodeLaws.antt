@@ -50,8 +50,3 @@ IsCodeAsWritten =
     → list_all (aims_well (marks_of (body_of after)) (length (written_code text (body_of after)))) (body_of after) ≡ true
     → IsCode (written_code text (body_of after)) (flat_map (line_ranges (text_pool text) (marks_of (body_of after))) (body_of after))
     (instrs_from (text_pool text) (marks_of (body_of after)) 0 (body_of after))
-
--- what a computed row opens
-unfoldable pub opened_code_laws : Unit {0}
-unfolding is_inside_code aims_well
-opened_code_laws = tt

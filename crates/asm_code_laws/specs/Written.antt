@@ -65,8 +65,3 @@ unfoldable pub line_ranges : List Content → List Mark → Line → List Range
 line_ranges pool marks (line.Catch c) =
     record { start = pc_of marks c.start; end = pc_of marks c.end; handler = pc_of marks c.handler; catch_type = class_index pool c.class } ∷ []
 line_ranges pool marks _ = []
-
--- what a computed row opens
-unfoldable pub opened_written : Unit {0}
-unfolding operand_numbers signed_numbers form_numbers form_of written_instr line_instrs instrs_from line_ranges
-opened_written = tt

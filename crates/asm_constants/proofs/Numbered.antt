@@ -12,10 +12,8 @@ use Rattle.asm_constants.specs.Contents.{same_content}
 use Rattle.asm_constants.specs.Pools.{places, is_short, index_from, has_content, with_new}
 use Rattle.asm_constants.specs.Entries.{AreNumbered, IsPool}
 use Rattle.asm_constants.proofs.Same.{equal, equal_is}
-
-and_true : (a : Bool) → (a && true) ≡ a
-and_true true = refl
-and_true false = refl
+use Rattle.jx_base.specs.Basics.{added}
+use Rattle.jx_base.proofs.BasicLaws.{and_true}
 
 abbrev pub Entries : Type 0
 Entries = List (Content × ℕ)
@@ -77,9 +75,9 @@ pool_with_new es c n short pool new =
     })
 
 pub known_stays : (pool : List Content) (c : Content) → has_content pool c ≡ true → with_new pool c ≡ pool
-unfolding with_new
+unfolding added has_content
 known_stays pool c h = rw h refl
 
 pub new_comes_last : (pool : List Content) (c : Content) → has_content pool c ≡ false → with_new pool c ≡ pool ++ c ∷ []
-unfolding with_new
+unfolding added has_content
 new_comes_last pool c h = rw h refl

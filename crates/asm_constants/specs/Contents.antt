@@ -34,8 +34,3 @@ needed (content.Member kind class name descriptor) =
     content.Utf8 class ∷ content.Class class ∷ content.Utf8 name ∷ content.Utf8 descriptor
     ∷ content.NameAndType name descriptor ∷ content.Member kind class name descriptor ∷ []
 needed c = c ∷ []
-
--- what a computed row opens
-unfoldable pub opened_contents : Unit {0}
-unfolding tag_of same_content needed
-opened_contents = tt

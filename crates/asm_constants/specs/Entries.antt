@@ -41,8 +41,3 @@ bytes_behind_tag pool (content.NameAndType name descriptor) =
     two_bytes (index_of pool (content.Utf8 name)) ++ two_bytes (index_of pool (content.Utf8 descriptor))
 bytes_behind_tag pool (content.Member kind class name descriptor) =
     two_bytes (index_of pool (content.Class class)) ++ two_bytes (index_of pool (content.NameAndType name descriptor))
-
--- what a computed row opens
-unfoldable pub opened_after_entry : Unit {0}
-unfolding AreNumbered content_tag bytes_behind_tag
-opened_after_entry = tt

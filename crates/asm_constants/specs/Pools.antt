@@ -2,6 +2,7 @@
 use Rattle.std.specs.Prelude.{ℕ, ◌+◌, ◌&&◌, Bool, true, List, [], ◌∷◌, ◌++◌, flat_map, length, sum_by, if◌then◌else◌, nat_le}
 use Rattle.std.specs.Int.{to_be_bytes, cast_unsigned, w16, w32, w64}
 use Rattle.std.specs.List.{list_any, list_all}
+use Rattle.jx_base.specs.Basics.{added, all_added}
 use Rattle.class_grammar.specs.ModifiedUtf8.{modified_utf8}
 use Rattle.asm_constants.specs.declared.content.Content.{Content}
 use Rattle.asm_constants.specs.declared.content.Content.TheVariants as content
@@ -13,12 +14,12 @@ unfoldable pub has_content : List Content → Content → Bool
 has_content pool c = list_any (same_content c) pool
 
 -- the constants with a new one at their end; an equal one is used again
-unfoldable pub with_new : List Content → Content → List Content
-with_new pool c = if has_content pool c then pool else pool ++ c ∷ []
+abbrev pub with_new : List Content → Content → List Content
+with_new pool c = added same_content pool c
 
-unfoldable pub with_all_new : List Content → List Content → List Content
-with_all_new pool [] = pool
-with_all_new pool (c ∷ contents) = with_all_new (with_new pool c) contents
+-- the constants with those others that are new
+abbrev pub with_all_new : List Content → List Content → List Content
+with_all_new pool contents = all_added same_content pool contents
 
 -- the constants with one more, and those that it names in front of it
 unfoldable pub with_needed : List Content → Content → List Content
@@ -75,8 +76,3 @@ constant_bytes pool (content.Member kind class name descriptor) =
 -- all constants, one behind the other
 unfoldable pub pool_bytes : List Content → List ℕ
 pool_bytes pool = flat_map (constant_bytes pool) pool
-
--- what a computed row opens
-unfoldable pub opened_pools : Unit {0}
-unfolding has_content with_new with_all_new with_needed places index_from index_of is_short fits constant_bytes pool_bytes
-opened_pools = tt

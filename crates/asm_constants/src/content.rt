@@ -5,9 +5,8 @@ ghost use Rattle.asm_constants.specs.Contents.{needed, tag_of};
 ghost use Rattle.asm_constants.specs.Entries.{content_tag};
 ghost use Rattle.asm_constants.specs.Pools.{is_short, places};
 
-use asm_words::Units;
 use class_texts::utf8_length;
-use jx_base::OutOfMemory;
+use jx_base::{OutOfMemory, Text};
 use std::alloc::Global;
 
 const MAX_LENGTH: usize = 65_535;
@@ -24,19 +23,13 @@ pub enum Reference {
 /// names of its class and its member, and the member's descriptor.
 #[derive(PartialEq, Eq, Hash, Drop)]
 pub enum Content {
-    Utf8(Units),
+    Utf8(Text),
     Integer(i32),
     Long(i64),
-    Class(Units),
-    Str(Units),
-    NameAndType(Units, Units),
-    Member(Reference, Units, Units, Units),
-}
-
-fn copy_of_units(alloc: Global, units: &Units) -> Result<Units, OutOfMemory>
-    ensures { IfOk result (λ text. text ≡ units.now) }
-{
-    Units::from_slice(alloc, units.as_slice())
+    Class(Text),
+    Str(Text),
+    NameAndType(Text, Text),
+    Member(Reference, Text, Text, Text),
 }
 
 fn is_short_text(units: &[u16]) -> bool
@@ -45,29 +38,26 @@ fn is_short_text(units: &[u16]) -> bool
     units.len() <= MAX_LENGTH && utf8_length(units) <= MAX_LENGTH as u32
 }
 
-pub(crate) fn text_content(alloc: Global, units: &Units) -> Result<Content, OutOfMemory>
+pub(crate) fn text_content(alloc: Global, units: &Text) -> Result<Content, OutOfMemory>
     ensures { IfOk result (λ content. content ≡ Content.Utf8 units.now) }
 {
-    Ok(Content::Utf8(copy_of_units(alloc, units)?))
+    Ok(Content::Utf8(units.copy(alloc)?))
 }
 
-pub(crate) fn class_content(alloc: Global, name: &Units) -> Result<Content, OutOfMemory>
+pub(crate) fn class_content(alloc: Global, name: &Text) -> Result<Content, OutOfMemory>
     ensures { IfOk result (λ content. content ≡ Content.Class name.now) }
 {
-    Ok(Content::Class(copy_of_units(alloc, name)?))
+    Ok(Content::Class(name.copy(alloc)?))
 }
 
 pub(crate) fn pair_content(
     alloc: Global,
-    name: &Units,
-    descriptor: &Units,
+    name: &Text,
+    descriptor: &Text,
 ) -> Result<Content, OutOfMemory>
     ensures { IfOk result (λ content. content ≡ Content.NameAndType name.now descriptor.now) }
 {
-    Ok(Content::NameAndType(
-        copy_of_units(alloc, name)?,
-        copy_of_units(alloc, descriptor)?,
-    ))
+    Ok(Content::NameAndType(name.copy(alloc)?, descriptor.copy(alloc)?))
 }
 
 impl Reference {
@@ -128,22 +118,19 @@ impl Content {
         ensures { IfOk result (λ content. content ≡ self.now) }
     {
         Ok(match self {
-            Content::Utf8(units) => Content::Utf8(copy_of_units(alloc, units)?),
+            Content::Utf8(units) => Content::Utf8(units.copy(alloc)?),
             Content::Integer(number) => Content::Integer(*number),
             Content::Long(number) => Content::Long(*number),
-            Content::Class(name) => Content::Class(copy_of_units(alloc, name)?),
-            Content::Str(units) => Content::Str(copy_of_units(alloc, units)?),
+            Content::Class(name) => Content::Class(name.copy(alloc)?),
+            Content::Str(units) => Content::Str(units.copy(alloc)?),
             Content::NameAndType(name, descriptor) => {
-                Content::NameAndType(
-                    copy_of_units(alloc, name)?,
-                    copy_of_units(alloc, descriptor)?,
-                )
+                Content::NameAndType(name.copy(alloc)?, descriptor.copy(alloc)?)
             }
             Content::Member(kind, class, name, descriptor) => Content::Member(
                 *kind,
-                copy_of_units(alloc, class)?,
-                copy_of_units(alloc, name)?,
-                copy_of_units(alloc, descriptor)?,
+                class.copy(alloc)?,
+                name.copy(alloc)?,
+                descriptor.copy(alloc)?,
             ),
         })
     }

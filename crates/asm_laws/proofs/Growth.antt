@@ -10,6 +10,7 @@ use Rattle.asm_constants.specs.Pools.{has_content, with_new, with_all_new, with_
 use Rattle.asm_bodies.specs.Needs.{with_all_needed}
 use Rattle.asm_laws.specs.Tables.{IsRangedContent, AreRangedContents, IsClosed}
 use Rattle.asm_laws.proofs.Same.{same_itself}
+use Rattle.jx_base.specs.Basics.{added, all_added}
 
 -- ---- lists
 
@@ -38,26 +39,26 @@ abbrev pub IsIn : List Content → List Content → Type 0
 IsIn pool more = (c : Content) → has_content pool c ≡ true → has_content more c ≡ true
 
 in_with_new : (pool : List Content) (d : Content) → IsIn pool (with_new pool d)
-unfolding has_content with_new
+unfolding has_content added
 in_with_new pool d c h = elim (cases_Bool (has_content pool d)) [
   | inl known ↦ rw known h
   | inr new ↦ rw new (list_any-append (same_content c) pool (d ∷ []) ∙ or_left (list_any (same_content c) pool) (list_any (same_content c) (d ∷ [])) h)
 ]
 
 new_is_there : (pool : List Content) (c : Content) → has_content (with_new pool c) c ≡ true
-unfolding has_content with_new
+unfolding has_content added
 new_is_there pool c = elim (cases_Bool (has_content pool c)) [
   | inl known ↦ rw known known
   | inr new ↦ rw new (list_any-append (same_content c) pool (c ∷ []) ∙ or_right (list_any (same_content c) pool) (list_any (same_content c) (c ∷ [])) (or_left (same_content c c) false (same_itself c)))
 ]
 
 in_with_all_new : (pool contents : List Content) → IsIn pool (with_all_new pool contents)
-unfolding with_all_new
+unfolding all_added
 in_with_all_new pool [] c h = h
 in_with_all_new pool (d ∷ contents) c h = in_with_all_new (with_new pool d) contents c (in_with_new pool d c h)
 
 all_new_are_there : (pool contents : List Content) → list_all (has_content (with_all_new pool contents)) contents ≡ true
-unfolding with_all_new
+unfolding all_added
 all_new_are_there pool [] = refl
 all_new_are_there pool (c ∷ contents) =
     and_from _ _ (in_with_all_new (with_new pool c) contents c (new_is_there pool c)) (all_new_are_there (with_new pool c) contents)
@@ -95,14 +96,14 @@ all_needed_are_there pool (c ∷ contents) =
 -- ---- what holds of each constant
 
 all_with_new : (P : Content → Type 0) (pool : List Content) (c : Content) → AllByRecursion P pool → P c → AllByRecursion P (with_new pool c)
-unfolding with_new
+unfolding added has_content
 all_with_new P pool c all one = elim (cases_Bool (has_content pool c)) [
   | inl known ↦ rw known all
   | inr new ↦ rw new (all_joined P pool (c ∷ []) all (one, tt))
 ]
 
 all_with_all_new : (P : Content → Type 0) (pool contents : List Content) → AllByRecursion P pool → AllByRecursion P contents → AllByRecursion P (with_all_new pool contents)
-unfolding with_all_new
+unfolding all_added
 all_with_all_new P pool [] all more = all
 all_with_all_new P pool (c ∷ contents) all more = all_with_all_new P (with_new pool c) contents (all_with_new P pool c all more.0) more.1
 

@@ -32,6 +32,7 @@ use Rattle.asm_laws.proofs.Orders.{HasClass}
 use Rattle.asm_laws.proofs.Ranges.{IsRangedLine}
 use Rattle.asm_laws.proofs.Repeated.{lines_spelled}
 use Rattle.asm_laws.proofs.Soundness.{AreSound}
+use Rattle.std.proofs.Math.Bool.{or-false}
 
 -- a line that a class file may have, whose constants are in the pool
 pub record IsSaid (pool : List Content) (interface : Bool) (l : Line) : Type 0 where
@@ -67,10 +68,6 @@ one_heading pool lines c =
     ∙ (ap (λ (behind : List ℕ). heading_bytes pool (class_of c) ++ behind) (no_heading pool c.after c.none_after)
     ∙ append-nil (heading_bytes pool (class_of c)))))
 
-or_nothing : (b : Bool) → (b || false) ≡ b
-or_nothing true = refl
-or_nothing false = refl
-
 pub is_interface : (lines : List Line) (c : HasClass lines) → list_any begins_interface lines ≡ is_interface_flag c.flags
 unfolding begins_interface
 is_interface lines c =
@@ -78,7 +75,7 @@ is_interface lines c =
     ∙ (list_any-append begins_interface c.before (class_of c ∷ c.after)
     ∙ (ap (λ (b : Bool). b || (is_interface_flag c.flags || list_any begins_interface c.after)) (no_interface c.before c.none_before)
     ∙ (ap (λ (b : Bool). is_interface_flag c.flags || b) (no_interface c.after c.none_after)
-    ∙ or_nothing (is_interface_flag c.flags))))
+    ∙ or-false (is_interface_flag c.flags))))
 
 at_split : {X : Type 0} (P : X → Type 0) (before after : List X) (x : X) → AllByRecursion P (before ++ x ∷ after) → P x
 at_split P [] after x h = h.0

@@ -46,8 +46,3 @@ IsAClassFile = (text bytes : List ℕ) → IsAssembled text bytes → are_taken 
 -- and it is none where it may not have what some line says
 abbrev pub IsNoOtherClassFile : Type 0
 IsNoOtherClassFile = (text bytes : List ℕ) → IsAssembled text bytes → are_taken (meanings text) ≡ false → (file : ClassFile) → IsClassFile bytes file → ⊥
-
--- what a computed row opens
-unfoldable pub opened_laws : Unit {0}
-unfolding is_taken_type is_taken_method is_taken begins_interface are_taken
-opened_laws = tt

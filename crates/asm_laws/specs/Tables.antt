@@ -63,8 +63,3 @@ AreRangedContents pool = AllByRecursion IsRangedContent pool
 -- each constant's parts are in the pool
 abbrev pub IsClosed : List Content → List Content → Type 0
 IsClosed pool contents = AllByRecursion (λ c. list_all (has_content pool) (needed c) ≡ true) contents
-
--- what a computed row opens
-unfoldable pub opened_tables : Unit {0}
-unfolding member_constant constant_of entries_of entries_from table_of
-opened_tables = tt

@@ -7,8 +7,9 @@ use Rattle.std.proofs.lemmas.Bool.Decides.{nat_tests}
 use Rattle.std.proofs.lemmas.Grind.{common_steps}
 use Rattle.std.proofs.lemmas.List.{length-map}
 use Rattle.asm_words.specs.Numbers.{within}
-use Rattle.asm_lines.specs.declared.error.LineError.{LineError}
-use Rattle.asm_lines.specs.declared.error.LineError.TheVariants as error
+use Rattle.jx_base.specs.declared.error.Error.{Error}
+use Rattle.jx_base.specs.declared.error.Error.TheVariants as error
+use Rattle.asm_lines.specs.declared.error.Malformed.{Malformed}
 use Rattle.asm_lines.specs.declared.line.Operand.{Operand}
 use Rattle.asm_lines.specs.declared.line.Operand.TheVariants as operand
 use Rattle.asm_lines.specs.Operands.{is_name, int_of, is_above, with_key, keys_above, table_operands, table, least_int, greatest_int}
@@ -89,17 +90,17 @@ is_not_above so_far before rest d key said h i e a =
     sym (first_key so_far before rest d (Some key) said h i e)
     ∙ ap (λ (o : Option (List Operand)). option_map (λ keys. so_far ++ keys) o) (not_above before key (get_or rest 1 d).now (texts (take (length rest - 2) (drop 2 rest))) a)
 
-pub key_fails : (so_far : List Operand) (before : Option ℤ) (rest : List (Bor (List ℕ))) (d : Bor (List ℕ)) (e : LineError) (said : Option (List Operand)) → 2 ≤ length rest →
+pub key_fails : (so_far : List Operand) (before : Option ℤ) (rest : List (Bor (List ℕ))) (d : Bor (List ℕ)) (e : (Error Malformed)) (said : Option (List Operand)) → 2 ≤ length rest →
     with_keys so_far before (texts rest) ≡ said → Tells {X = ℤ} (λ z. z) (Err e) (int_of (get_or rest 0 d).now) → Tells {X = List Operand} (λ operands. operands) (Err e) said
-key_fails so_far before rest d error.Malformed said h i t =
+key_fails so_far before rest d (error.Bad malformed) said h i t =
     sym (first_key so_far before rest d None said h i t)
     ∙ ap (λ (o : Option (List Operand)). option_map (λ keys. so_far ++ keys) o) (no_key before (get_or rest 1 d).now (texts (take (length rest - 2) (drop 2 rest))))
 key_fails so_far before rest d error.OutOfMemory said h i t = tt
 
-pub label_fails : (so_far : List Operand) (before : Option ℤ) (rest : List (Bor (List ℕ))) (d : Bor (List ℕ)) (key : ℤ) (e : LineError) (said : Option (List Operand)) → 2 ≤ length rest →
+pub label_fails : (so_far : List Operand) (before : Option ℤ) (rest : List (Bor (List ℕ))) (d : Bor (List ℕ)) (key : ℤ) (e : (Error Malformed)) (said : Option (List Operand)) → 2 ≤ length rest →
     with_keys so_far before (texts rest) ≡ said → int_of (get_or rest 0 d).now ≡ Some key → is_above before key ≡ true →
     Tells {X = List ℕ} (λ name. name) (Err e) (if is_name (get_or rest 1 d).now then Some (get_or rest 1 d).now else None) → Tells {X = List Operand} (λ operands. operands) (Err e) said
-label_fails so_far before rest d key error.Malformed said h i k a t =
+label_fails so_far before rest d key (error.Bad malformed) said h i k a t =
     sym (first_key so_far before rest d (Some key) said h i k)
     ∙ ap (λ (o : Option (List Operand)). option_map (λ keys. so_far ++ keys) o) (no_name before key (get_or rest 1 d).now (texts (take (length rest - 2) (drop 2 rest))) a (denied _ _ t))
 label_fails so_far before rest d key error.OutOfMemory said h i k a t = tt

@@ -136,8 +136,3 @@ meaning bytes = elim (units_of bytes) [ None ↦ line.Faulty kind.Word false | S
 -- what the lines of a text mean
 unfoldable pub meanings : List ℕ → List Line
 meanings text = map meaning (lines_of text)
-
--- what a computed row opens
-unfoldable pub opened_lines : Unit {0}
-unfolding opcode_named with_operands wide_instruction class_line implements_line member_of field_line abstract_line slots method_with method_line catch_line end_line label_of label_line fitting body_line worded_line line_of_words meaning meanings
-opened_lines = tt

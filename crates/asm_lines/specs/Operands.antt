@@ -246,8 +246,3 @@ operands_of form.LookupSwitch r words = lookup words
 operands_of form.Wide r words = None
 operands_of form.LeftOut r words = None
 operands_of form.Unassigned r words = None
-
--- what a computed row opens
-unfoldable pub opened_operands : Unit {0}
-unfolding int_of is_name number_operand signed_byte signed_short unsigned_byte unsigned_short then_operand increment wide_increment class_operand member_operand field_operand method_operand count_operands interface_operand constant_of byte_constant short_constant long_constant element_type array_type dimensions target far_target table_operands table is_above with_key keys_above lookup_operands lookup_behind lookup nothing index_operand byte_operand operands_of
-opened_operands = tt

@@ -5,7 +5,7 @@ ghost use Rattle.asm_lines.specs.Operands.{operands_of};
 ghost use Rattle.asm_lines.specs.Lines.{opcode_named, with_operands, wide_instruction};
 ghost use Rattle.asm_lines.specs.Readings.{Tells, texts};
 
-use crate::error::LineError;
+use crate::error::{LineError, Malformed};
 use crate::line::{Instruction, Line};
 use crate::operands::operands_of;
 use asm_words::is_text;
@@ -62,8 +62,8 @@ pub fn wide_instruction(alloc: Global, words: &[&[u16]]) -> Result<Line, LineErr
     match words {
         [word, words @ ..] => match opcode_named(word) {
             Some(opcode) => with_operands(alloc, opcode, true, wide_form_of(opcode), words),
-            None => Err(LineError::Malformed),
+            None => Err(LineError::Bad(Malformed)),
         },
-        _ => Err(LineError::Malformed),
+        _ => Err(LineError::Bad(Malformed)),
     }
 }

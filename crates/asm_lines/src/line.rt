@@ -1,8 +1,7 @@
 //! Lines of an assembler text, by what they mean.
 
 use asm_constants::Content;
-use asm_words::Units;
-use jx_base::Listed;
+use jx_base::{Listed, Text};
 
 /// Why a text isn't assembled. Where a line has two faults, the one that comes first here is told.
 #[derive(Clone, Copy)]
@@ -31,8 +30,8 @@ pub enum Operand {
     Int(i32),
     ByteIndex(Content),
     Index(Content),
-    Target(Units),
-    FarTarget(Units),
+    Target(Text),
+    FarTarget(Text),
     Padding,
 }
 
@@ -48,17 +47,17 @@ pub struct Instruction {
 #[derive(Drop)]
 pub struct Member {
     pub flags: u16,
-    pub name: Units,
-    pub descriptor: Units,
+    pub name: Text,
+    pub descriptor: Text,
 }
 
 /// An entry of an exception table, between labels. Without a class it catches all.
 #[derive(Drop)]
 pub struct Catch {
-    pub start: Units,
-    pub end: Units,
-    pub handler: Units,
-    pub class: Option<Units>,
+    pub start: Text,
+    pub end: Text,
+    pub handler: Text,
+    pub class: Option<Text>,
 }
 
 /// What a line means. A faulty line has a fault of its own, whatever stands around it; `ends` says
@@ -68,15 +67,15 @@ pub enum Line {
     Skipped,
     Class {
         flags: u16,
-        name: Units,
-        super_class: Units,
+        name: Text,
+        super_class: Text,
     },
-    Implements(Units),
+    Implements(Text),
     Field(Member),
     Abstract(Member),
     /// With its greatest stack and its locals, in slots.
     Method(Member, u16, u16),
-    Label(Units),
+    Label(Text),
     Instruction(Instruction),
     Catch(Catch),
     End,

@@ -6,11 +6,12 @@ ghost use Rattle.asm_lines.specs.Operands.{is_name};
 ghost use Rattle.asm_lines.specs.Lines.{class_line, implements_line, member_of, field_line, abstract_line, method_line, catch_line};
 ghost use Rattle.asm_lines.specs.Readings.{Tells, texts};
 
-use crate::error::LineError;
+use crate::error::{LineError, Malformed};
 use crate::line::{Catch, Line, Member};
 use crate::words::{name, unsigned};
-use asm_words::{Units, flags, is_text};
+use asm_words::{flags, is_text};
 use class_texts::{argument_slots, is_field_descriptor};
+use jx_base::Text;
 use std::alloc::Global;
 
 // The flags that the word says.
@@ -19,7 +20,7 @@ fn flags_of(word: &[u16]) -> Result<u16, LineError>
 {
     match flags(word) {
         Some(flags) => Ok(flags),
-        None => Err(LineError::Malformed),
+        None => Err(LineError::Bad(Malformed)),
     }
 }
 
@@ -38,7 +39,7 @@ pub fn class_line(alloc: Global, words: &[&[u16]]) -> Result<Line, LineError>
                 super_class,
             })
         }
-        _ => Err(LineError::Malformed),
+        _ => Err(LineError::Bad(Malformed)),
     }
 }
 
@@ -49,7 +50,7 @@ pub fn implements_line(alloc: Global, words: &[&[u16]]) -> Result<Line, LineErro
 {
     match words {
         [interface] => Ok(Line::Implements(name(alloc, interface)?)),
-        _ => Err(LineError::Malformed),
+        _ => Err(LineError::Bad(Malformed)),
     }
 }
 
@@ -65,12 +66,12 @@ fn member_of(
     ensures { Tells (λ member. member) result (member_of described flags.now member.now descriptor.now) }
 {
     if !described {
-        return Err(LineError::Malformed);
+        return Err(LineError::Bad(Malformed));
     }
     Ok(Member {
         flags: flags_of(flags)?,
         name: name(alloc, member)?,
-        descriptor: Units::from_slice(alloc, descriptor)?,
+        descriptor: Text::from_slice(alloc, descriptor)?,
     })
 }
 
@@ -84,7 +85,7 @@ pub fn field_line(alloc: Global, words: &[&[u16]]) -> Result<Line, LineError>
             let described = is_field_descriptor(descriptor);
             Ok(Line::Field(member_of(alloc, described, flags, name, descriptor)?))
         }
-        _ => Err(LineError::Malformed),
+        _ => Err(LineError::Bad(Malformed)),
     }
 }
 
@@ -98,7 +99,7 @@ pub fn abstract_line(alloc: Global, words: &[&[u16]]) -> Result<Line, LineError>
             let described = argument_slots(descriptor).is_some();
             Ok(Line::Abstract(member_of(alloc, described, flags, name, descriptor)?))
         }
-        _ => Err(LineError::Malformed),
+        _ => Err(LineError::Bad(Malformed)),
     }
 }
 
@@ -113,12 +114,12 @@ pub fn method_line(alloc: Global, words: &[&[u16]]) -> Result<Line, LineError>
             let method = member_of(alloc, described, flags, name, descriptor)?;
             Ok(Line::Method(method, unsigned(max_stack)?, unsigned(max_locals)?))
         }
-        _ => Err(LineError::Malformed),
+        _ => Err(LineError::Bad(Malformed)),
     }
 }
 
 // The class that is caught, none where it is any.
-fn catch_class(alloc: Global, class: &[u16]) -> Result<Option<Units>, LineError>
+fn catch_class(alloc: Global, class: &[u16]) -> Result<Option<Text>, LineError>
     ensures { Tells (λ caught. caught) result (if is_name class.now then Some (if bytes_eq class.now (codes "any") then None else Some class.now) else None) }
 {
     let caught = name(alloc, class)?;
@@ -141,6 +142,6 @@ pub fn catch_line(alloc: Global, words: &[&[u16]]) -> Result<Line, LineError>
             handler: name(alloc, handler)?,
             class: catch_class(alloc, class)?,
         })),
-        _ => Err(LineError::Malformed),
+        _ => Err(LineError::Bad(Malformed)),
     }
 }

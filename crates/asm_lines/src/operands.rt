@@ -5,14 +5,14 @@ ghost use Rattle.asm_lines.specs.Operands.{signed_byte, signed_short, unsigned_b
 ghost use Rattle.asm_lines.specs.declared.line.Operand.TheVariants.{Byte};
 ghost use Rattle.asm_lines.specs.Readings.{Tells, texts};
 
-use crate::error::LineError;
+use crate::error::{LineError, Malformed};
 use crate::line::Operand;
 use crate::switches::{lookup, table};
 use crate::words::{byte_from, constant, name, short, small, unsigned};
 use asm_constants::{Content, Reference};
-use asm_words::{Units, is_text, number};
+use asm_words::{is_text, number};
 use class_texts::{argument_slots, is_field_descriptor};
-use jx_base::{Form, Row};
+use jx_base::{Form, Row, Text};
 use std::alloc::Global;
 
 /// The operands that words say.
@@ -38,7 +38,7 @@ pub fn operands_of(alloc: Global, form: Form, row: Row, words: &[&[u16]]) -> Ope
         Form::FarBranch => far_target(alloc, words),
         Form::TableSwitch => table(alloc, words),
         Form::LookupSwitch => lookup(alloc, words),
-        Form::Wide | Form::LeftOut | Form::Unassigned => Err(LineError::Malformed),
+        Form::Wide | Form::LeftOut | Form::Unassigned => Err(LineError::Bad(Malformed)),
     }
 }
 
@@ -98,7 +98,7 @@ fn nothing(alloc: Global, words: &[&[u16]]) -> Operands
     if words.is_empty() {
         Ok(Vec::new(alloc))
     } else {
-        Err(LineError::Malformed)
+        Err(LineError::Bad(Malformed))
     }
 }
 
@@ -108,7 +108,7 @@ fn signed_byte(alloc: Global, words: &[&[u16]]) -> Operands
 {
     match words {
         [word] => one(alloc, Operand::Byte(small(word)?.cast_unsigned())),
-        _ => Err(LineError::Malformed),
+        _ => Err(LineError::Bad(Malformed)),
     }
 }
 
@@ -118,7 +118,7 @@ fn signed_short(alloc: Global, words: &[&[u16]]) -> Operands
 {
     match words {
         [word] => one(alloc, Operand::Short(short(word)?.cast_unsigned())),
-        _ => Err(LineError::Malformed),
+        _ => Err(LineError::Bad(Malformed)),
     }
 }
 
@@ -128,7 +128,7 @@ fn unsigned_byte(alloc: Global, words: &[&[u16]]) -> Operands
 {
     match words {
         [word] => one(alloc, Operand::Byte(byte_from(word, 0)?)),
-        _ => Err(LineError::Malformed),
+        _ => Err(LineError::Bad(Malformed)),
     }
 }
 
@@ -138,7 +138,7 @@ fn unsigned_short(alloc: Global, words: &[&[u16]]) -> Operands
 {
     match words {
         [word] => one(alloc, Operand::Short(unsigned(word)?)),
-        _ => Err(LineError::Malformed),
+        _ => Err(LineError::Bad(Malformed)),
     }
 }
 
@@ -152,7 +152,7 @@ fn increment(alloc: Global, words: &[&[u16]]) -> Operands
             let local = Operand::Byte(byte_from(local, 0)?);
             two(alloc, local, Operand::Byte(small(by)?.cast_unsigned()))
         }
-        _ => Err(LineError::Malformed),
+        _ => Err(LineError::Bad(Malformed)),
     }
 }
 
@@ -165,7 +165,7 @@ fn wide_increment(alloc: Global, words: &[&[u16]]) -> Operands
             let local = Operand::Short(unsigned(local)?);
             two(alloc, local, Operand::Short(short(by)?.cast_unsigned()))
         }
-        _ => Err(LineError::Malformed),
+        _ => Err(LineError::Bad(Malformed)),
     }
 }
 
@@ -175,7 +175,7 @@ fn class_operand(alloc: Global, words: &[&[u16]]) -> Operands
 {
     match words {
         [class] => one(alloc, Operand::Index(Content::Class(name(alloc, class)?))),
-        _ => Err(LineError::Malformed),
+        _ => Err(LineError::Bad(Malformed)),
     }
 }
 
@@ -194,9 +194,9 @@ fn member_operand(
     let class = name(alloc, class)?;
     let member = name(alloc, member)?;
     if !described {
-        return Err(LineError::Malformed);
+        return Err(LineError::Bad(Malformed));
     }
-    let descriptor = Units::from_slice(alloc, descriptor)?;
+    let descriptor = Text::from_slice(alloc, descriptor)?;
     Ok(Operand::Index(Content::Member(kind, class, member, descriptor)))
 }
 
@@ -217,7 +217,7 @@ fn field_operand(alloc: Global, words: &[&[u16]]) -> Operands
             )?;
             one(alloc, member)
         }
-        _ => Err(LineError::Malformed),
+        _ => Err(LineError::Bad(Malformed)),
     }
 }
 
@@ -238,7 +238,7 @@ fn method_operand(alloc: Global, words: &[&[u16]]) -> Operands
             )?;
             one(alloc, member)
         }
-        _ => Err(LineError::Malformed),
+        _ => Err(LineError::Bad(Malformed)),
     }
 }
 
@@ -252,10 +252,10 @@ fn argument_count(descriptor: &[u16]) -> Result<u8, LineError>
             if slots < 255 {
                 Ok(slots as u8 + 1)
             } else {
-                Err(LineError::Malformed)
+                Err(LineError::Bad(Malformed))
             }
         }
-        None => Err(LineError::Malformed),
+        None => Err(LineError::Bad(Malformed)),
     }
 }
 
@@ -280,7 +280,7 @@ fn interface_operand(alloc: Global, words: &[&[u16]]) -> Operands
             operands.push(Operand::Byte(0))?;
             Ok(operands)
         }
-        _ => Err(LineError::Malformed),
+        _ => Err(LineError::Bad(Malformed)),
     }
 }
 
@@ -305,14 +305,14 @@ fn long_constant(alloc: Global, words: &[&[u16]]) -> Operands
     match words {
         [kind, word] => {
             if !is_text(kind, "long") {
-                return Err(LineError::Malformed);
+                return Err(LineError::Bad(Malformed));
             }
             match number(word, i64::MIN, i64::MAX) {
                 Some(n) => one(alloc, Operand::Index(Content::Long(n))),
-                None => Err(LineError::Malformed),
+                None => Err(LineError::Bad(Malformed)),
             }
         }
-        _ => Err(LineError::Malformed),
+        _ => Err(LineError::Bad(Malformed)),
     }
 }
 
@@ -334,7 +334,7 @@ fn element_type(word: &[u16]) -> Result<u8, LineError>
     } else if is_text(word, "long") {
         Ok(11)
     } else {
-        Err(LineError::Malformed)
+        Err(LineError::Bad(Malformed))
     }
 }
 
@@ -344,7 +344,7 @@ fn array_type(alloc: Global, words: &[&[u16]]) -> Operands
 {
     match words {
         [word] => one(alloc, Operand::Byte(element_type(word)?)),
-        _ => Err(LineError::Malformed),
+        _ => Err(LineError::Bad(Malformed)),
     }
 }
 
@@ -359,7 +359,7 @@ fn dimensions(alloc: Global, words: &[&[u16]]) -> Operands
             let class = Operand::Index(Content::Class(name(alloc, class)?));
             two(alloc, class, Operand::Byte(count))
         }
-        _ => Err(LineError::Malformed),
+        _ => Err(LineError::Bad(Malformed)),
     }
 }
 
@@ -369,7 +369,7 @@ fn target(alloc: Global, words: &[&[u16]]) -> Operands
 {
     match words {
         [label] => one(alloc, Operand::Target(name(alloc, label)?)),
-        _ => Err(LineError::Malformed),
+        _ => Err(LineError::Bad(Malformed)),
     }
 }
 
@@ -379,6 +379,6 @@ fn far_target(alloc: Global, words: &[&[u16]]) -> Operands
 {
     match words {
         [label] => one(alloc, Operand::FarTarget(name(alloc, label)?)),
-        _ => Err(LineError::Malformed),
+        _ => Err(LineError::Bad(Malformed)),
     }
 }

@@ -4,14 +4,14 @@ ghost use Rattle.asm_lines.specs.Lines.{meanings, meaning, line_of_words, worded
 ghost use Rattle.asm_lines.specs.Readings.{Tells, texts};
 ghost use Rattle.asm_lines.specs.declared.line.Line.{Line};
 
-use crate::error::LineError;
+use crate::error::{LineError, Malformed};
 use crate::instructions::{instruction, opcode_named, wide_instruction};
 use crate::line::{AsmKind, Line};
 use crate::members::{
     abstract_line, catch_line, class_line, field_line, implements_line, method_line,
 };
-use asm_words::{Units, is_text, lines_of, units_of, words_of};
-use jx_base::OutOfMemory;
+use asm_words::{is_text, lines_of, units_of, words_of};
+use jx_base::{OutOfMemory, Text};
 use std::alloc::{AllocError, Global};
 
 const COLON: u16 = 0x3a;
@@ -70,7 +70,7 @@ fn fitting(ends: bool, line: Result<Line, LineError>) -> Result<Line, OutOfMemor
 {
     match line {
         Ok(line) => Ok(line),
-        Err(LineError::Malformed) => Ok(Line::Faulty {
+        Err(LineError::Bad(Malformed)) => Ok(Line::Faulty {
             kind: AsmKind::Operand,
             ends,
         }),
@@ -111,7 +111,7 @@ fn end_line(words: &[&[u16]]) -> Result<Line, LineError>
     if words.is_empty() {
         Ok(Line::End)
     } else {
-        Err(LineError::Malformed)
+        Err(LineError::Bad(Malformed))
     }
 }
 
@@ -138,9 +138,9 @@ fn label_line(alloc: Global, name: &[u16], words: &[&[u16]]) -> Result<Line, Lin
     ensures { Tells (λ line. line) result (label_line name.now (texts words.now)) }
 {
     if words.is_empty() {
-        Ok(Line::Label(Units::from_slice(alloc, name)?))
+        Ok(Line::Label(Text::from_slice(alloc, name)?))
     } else {
-        Err(LineError::Malformed)
+        Err(LineError::Bad(Malformed))
     }
 }
 

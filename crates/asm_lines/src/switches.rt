@@ -6,7 +6,7 @@ ghost use Rattle.asm_lines.specs.Operands.{table, table_operands, lookup, keys_a
 ghost use Rattle.asm_lines.specs.Readings.{Tells, texts};
 ghost use Rattle.asm_lines.specs.declared.line.Operand.TheVariants.{FarTarget, Padding};
 
-use crate::error::LineError;
+use crate::error::{LineError, Malformed};
 use crate::line::Operand;
 use crate::operands::Operands;
 use crate::words::{int, name};
@@ -32,9 +32,10 @@ fn greatest_key(low: i32, more: usize) -> Result<i32, LineError>
     ensures { Tells (λ z. z) result (within least_int greatest_int (Some (low +ℤ pos more))) }
 {
     let Ok(more) = u32::try_from(more) else {
-        return Err(LineError::Malformed);
+        return Err(LineError::Bad(Malformed));
     };
-    low.checked_add_unsigned(more).ok_or(LineError::Malformed)
+    low.checked_add_unsigned(more)
+        .ok_or(LineError::Bad(Malformed))
 }
 
 // The padding, and the default.
@@ -72,7 +73,7 @@ pub fn table(alloc: Global, words: &[&[u16]]) -> Operands
             push_targets(alloc, &mut operands, labels)?;
             Ok(operands)
         }
-        _ => Err(LineError::Malformed),
+        _ => Err(LineError::Bad(Malformed)),
     }
 }
 
@@ -85,7 +86,7 @@ fn push_keys(alloc: Global, operands: &mut Vec<Operand>, pairs: &[&[u16]]) -> Re
     while let [word, label, behind @ ..] = rest {
         let key = int(word)?;
         if !is_above(before, key) {
-            return Err(LineError::Malformed);
+            return Err(LineError::Bad(Malformed));
         }
         operands.push(Operand::Int(key))?;
         operands.push(Operand::FarTarget(name(alloc, label)?))?;
@@ -95,7 +96,7 @@ fn push_keys(alloc: Global, operands: &mut Vec<Operand>, pairs: &[&[u16]]) -> Re
     if rest.is_empty() {
         Ok(())
     } else {
-        Err(LineError::Malformed)
+        Err(LineError::Bad(Malformed))
     }
 }
 
@@ -118,13 +119,13 @@ pub fn lookup(alloc: Global, words: &[&[u16]]) -> Operands
     match words {
         [default, pairs @ ..] => {
             let Ok(count) = i32::try_from(pairs.len() / 2) else {
-                return Err(LineError::Malformed);
+                return Err(LineError::Bad(Malformed));
             };
             let mut operands = switch_front(alloc, default)?;
             operands.push(Operand::Int(count))?;
             push_keys(alloc, &mut operands, pairs)?;
             Ok(operands)
         }
-        _ => Err(LineError::Malformed),
+        _ => Err(LineError::Bad(Malformed)),
     }
 }

@@ -4,9 +4,10 @@ ghost use Rattle.asm_words.specs.Numbers.{number_of, within};
 ghost use Rattle.asm_lines.specs.Operands.{is_name, int_of, constant_of};
 ghost use Rattle.asm_lines.specs.Readings.{Tells, texts};
 
-use crate::error::LineError;
+use crate::error::{LineError, Malformed};
 use asm_constants::Content;
-use asm_words::{Units, is_text, number, unquoted};
+use asm_words::{is_text, number, unquoted};
+use jx_base::Text;
 use std::alloc::Global;
 
 const QUOTE: u16 = 0x22;
@@ -23,13 +24,13 @@ pub fn is_name(word: &[u16]) -> bool
 }
 
 /// The name that the word is.
-pub fn name(alloc: Global, word: &[u16]) -> Result<Units, LineError>
+pub fn name(alloc: Global, word: &[u16]) -> Result<Text, LineError>
     ensures { Tells (λ name. name) result (if is_name word.now then Some word.now else None) }
 {
     if is_name(word) {
-        Ok(Units::from_slice(alloc, word)?)
+        Ok(Text::from_slice(alloc, word)?)
     } else {
-        Err(LineError::Malformed)
+        Err(LineError::Bad(Malformed))
     }
 }
 
@@ -40,7 +41,7 @@ pub fn int(word: &[u16]) -> Result<i32, LineError>
 {
     match number(word, i64::from(i32::MIN), i64::from(i32::MAX)) {
         Some(n) => Ok(n as i32),
-        None => Err(LineError::Malformed),
+        None => Err(LineError::Bad(Malformed)),
     }
 }
 
@@ -50,7 +51,7 @@ pub fn short(word: &[u16]) -> Result<i16, LineError>
 {
     match number(word, i64::from(i16::MIN), i64::from(i16::MAX)) {
         Some(n) => Ok(n as i16),
-        None => Err(LineError::Malformed),
+        None => Err(LineError::Bad(Malformed)),
     }
 }
 
@@ -60,7 +61,7 @@ pub fn small(word: &[u16]) -> Result<i8, LineError>
 {
     match number(word, i64::from(i8::MIN), i64::from(i8::MAX)) {
         Some(n) => Ok(n as i8),
-        None => Err(LineError::Malformed),
+        None => Err(LineError::Bad(Malformed)),
     }
 }
 
@@ -70,7 +71,7 @@ pub fn unsigned(word: &[u16]) -> Result<u16, LineError>
 {
     match number(word, 0, i64::from(u16::MAX)) {
         Some(n) => Ok(n as u16),
-        None => Err(LineError::Malformed),
+        None => Err(LineError::Bad(Malformed)),
     }
 }
 
@@ -80,7 +81,7 @@ pub fn byte_from(word: &[u16], least: u8) -> Result<u8, LineError>
 {
     match number(word, i64::from(least), i64::from(u8::MAX)) {
         Some(n) => Ok(n as u8),
-        None => Err(LineError::Malformed),
+        None => Err(LineError::Bad(Malformed)),
     }
 }
 
@@ -96,12 +97,12 @@ pub fn constant(alloc: Global, words: &[&[u16]]) -> Result<Content, LineError>
             } else if is_text(kind, "string") {
                 match unquoted(alloc, word)? {
                     Some(text) => Ok(Content::Str(text)),
-                    None => Err(LineError::Malformed),
+                    None => Err(LineError::Bad(Malformed)),
                 }
             } else {
-                Err(LineError::Malformed)
+                Err(LineError::Bad(Malformed))
             }
         }
-        _ => Err(LineError::Malformed),
+        _ => Err(LineError::Bad(Malformed)),
     }
 }

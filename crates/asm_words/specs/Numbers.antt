@@ -44,8 +44,3 @@ four_digits a b c d = with_digit (with_digit (with_digit (digit_value a) (digit_
 unfoldable pub flags_of : List ℕ → Option ℕ
 flags_of (z ∷ x ∷ a ∷ b ∷ c ∷ d ∷ []) = if (z == 0x30) && (x == 0x78) then four_digits a b c d else None
 flags_of _ = None
-
--- what a computed row opens
-unfoldable pub opened_numbers : Unit {0}
-unfolding is_digit value_of natural_of number_of within digit_value with_digit four_digits flags_of
-opened_numbers = tt

@@ -55,8 +55,3 @@ up_to_quote (u ∷ v ∷ a ∷ b ∷ c ∷ d ∷ units) =
 unfoldable pub unquoted : List ℕ → Option (List ℕ)
 unquoted [] = None
 unquoted (u ∷ units) = if u == quote then up_to_quote units else None
-
--- what a computed row opens
-unfoldable pub opened_quotes : Unit {0}
-unfolding with_unit with_plain is_upper escaped_unit with_escaped up_to_quote unquoted
-opened_quotes = tt

@@ -48,8 +48,3 @@ words_of units = words_from position.Front units
 -- the units of a line, none where it isn't UTF-8
 unfoldable pub units_of : List ℕ → Option (List ℕ)
 units_of bytes = if is_utf8 bytes then Some (flat_map encode_utf16 (chars bytes)) else None
-
--- what a computed row opens
-unfoldable pub opened_basics : Unit {0}
-unfolding begun lines_of position_behind words_from words_of units_of
-opened_basics = tt

@@ -10,5 +10,5 @@ mod words;
 pub use laws::one_reading;
 pub use numbers::{flags, number};
 pub use quotes::unquoted;
-pub use units::{Units, units_of};
+pub use units::units_of;
 pub use words::{Position, is_text, lines_of, words_of};

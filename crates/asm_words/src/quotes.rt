@@ -5,8 +5,7 @@ ghost use Rattle.asm_words.specs.Quotes.{is_upper, escaped_unit, up_to_quote, un
 ghost use Rattle.asm_words.specs.Readings.{is_closing, escape_at, unit_at};
 
 use crate::numbers::four_digits;
-use crate::units::Units;
-use jx_base::OutOfMemory;
+use jx_base::{OutOfMemory, Text};
 use std::alloc::Global;
 
 const QUOTE: u16 = 0x22;
@@ -81,7 +80,7 @@ fn is_closing(units: &[u16]) -> bool
 }
 
 /// The units up to the quote that stands at the end.
-fn up_to_quote(alloc: Global, quoted: &[u16]) -> Result<Option<Units>, OutOfMemory>
+fn up_to_quote(alloc: Global, quoted: &[u16]) -> Result<Option<Text>, OutOfMemory>
     ensures { IfOk result (λ text. text ≡ up_to_quote quoted.now) }
 {
     let mut units = Vec::with_capacity(alloc, quoted.len())?;
@@ -95,12 +94,12 @@ fn up_to_quote(alloc: Global, quoted: &[u16]) -> Result<Option<Units>, OutOfMemo
             None => return Ok(None),
         }
     }
-    Ok(Some(Units::from_vec(units)))
+    Ok(Some(Text::from_vec(units)))
 }
 
 /// The text that the word quotes, if it quotes one as it is written in quotes; both in units of UTF-16.
 #[tactic(auto, unfolding(crate::specs::Quotes::unquoted))]
-pub fn unquoted(alloc: Global, word: &[u16]) -> Result<Option<Units>, OutOfMemory>
+pub fn unquoted(alloc: Global, word: &[u16]) -> Result<Option<Text>, OutOfMemory>
     ensures { IfOk result (λ text. text ≡ unquoted word.now) }
 {
     match word {

@@ -7,8 +7,8 @@ use Rattle.asm_lines.specs.declared.line.Line.{Line}
 use Rattle.asm_bodies.specs.Bodies.{first_far}
 use Rattle.asm_bytes.specs.Files.{file_bytes}
 use Rattle.asm_checks.specs.Faults.{first_fault}
-use Rattle.class_asm.specs.declared.fault.AsmError.{AsmError}
-use Rattle.class_asm.specs.declared.fault.AsmError.TheVariants as error
+use Rattle.jx_base.specs.declared.error.Error.{Error}
+use Rattle.jx_base.specs.declared.error.Error.TheVariants as error
 use Rattle.class_asm.specs.declared.fault.AsmFault.{AsmFault}
 
 -- a fault at the line behind so many
@@ -42,12 +42,7 @@ IsAssembled text bytes = assembly (meanings text) ≡ Ok bytes
 abbrev pub IsAsmFault : List ℕ → AsmFault → Type 0
 IsAsmFault text f = assembly (meanings text) ≡ Err f
 
--- what was refused has that first fault, unless memory ran out
-abbrev pub TellsFault : List ℕ → AsmError → Type 0
-TellsFault text (error.Bad f) = IsAsmFault text f
-TellsFault text error.OutOfMemory = Unit {0}
-
--- what a computed row opens
-unfoldable pub opened_assembly : Unit {0}
-unfolding asm_fault far_or bytes_or_far assembly_with assembly
-opened_assembly = tt
+-- what is refused has that first fault, unless memory ran out
+abbrev pub FindsFault : List ℕ → Error AsmFault → Type 0
+FindsFault text (error.Bad f) = IsAsmFault text f
+FindsFault text error.OutOfMemory = Unit {0}

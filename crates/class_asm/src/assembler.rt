@@ -1,6 +1,6 @@
 //! Assembles class files.
 ghost use Rattle.std.specs.Prelude.{◌≡◌, ◌≤◌, ◌^◌, length, IfOk, IfErr};
-ghost use Rattle.class_asm.specs.Assembly.{IsAssembled, TellsFault, asm_fault, far_or};
+ghost use Rattle.class_asm.specs.Assembly.{IsAssembled, FindsFault, asm_fault, far_or};
 ghost use Rattle.asm_bodies.specs.Bodies.{first_far};
 ghost use Rattle.std.specs.Prelude.{take};
 
@@ -46,7 +46,7 @@ fn far_or(
 pub fn assemble(alloc: Global, text: &[u8]) -> Result<Vec<u8>, AsmError>
     requires { length text.now ≤ 2 ^ 31 }
     ensures assembled { IfOk result (λ bytes. IsAssembled text.now bytes.items) }
-    ensures fault { IfErr result (TellsFault text.now) }
+    ensures fault { IfErr result (FindsFault text.now) }
 {
     let lines = meanings(alloc, text)?;
     match check(alloc, lines.as_slice())? {

@@ -1,6 +1,6 @@
 //! The Code of a method.
 
-use crate::parts::{Case, class_of, push_hex, told, try_each};
+use crate::parts::{Case, class_of, first_fault, push_hex, try_each};
 use jx_base::{ClassKind, OutOfMemory};
 use std::alloc::Global;
 use std::test::Fail;
@@ -156,7 +156,7 @@ fn long_code(alloc: Global, attribute: &str, length: &str, n: u32) -> Result<Vec
 }
 
 #[test]
-fn codes_are_told(rt: HostRuntime) -> Result<(), Fail> {
+fn codes_are_read_or_have_these_first_faults(rt: HostRuntime) -> Result<(), Fail> {
     try_each(&rt, rt.alloc(), ONE_METHOD, &CODES)
 }
 
@@ -164,10 +164,10 @@ fn codes_are_told(rt: HostRuntime) -> Result<(), Fail> {
 fn longest_code_is_read(rt: HostRuntime) -> Result<(), Fail> {
     let alloc = rt.alloc();
     let most = long_code(alloc, "0001000b", "0000ffff", 65535)?;
-    assert_eq!(rt; told(alloc, most.as_slice())?, None, "65,535 bytes");
+    assert_eq!(rt; first_fault(alloc, most.as_slice())?, None, "65,535 bytes");
     let longer = long_code(alloc, "0001000c", "00010000", 65536)?;
     assert_eq!(rt;
-        told(alloc, longer.as_slice())?,
+        first_fault(alloc, longer.as_slice())?,
         Some((58, ClassKind::Code)),
         "65,536 bytes"
     );

@@ -1,6 +1,6 @@
 //! Descriptors of fields and methods.
 
-use crate::parts::{class_of, push_hex, told};
+use crate::parts::{class_of, first_fault, push_hex};
 use jx_base::{ClassKind, OutOfMemory};
 use std::alloc::Global;
 use std::process::Abort;
@@ -99,7 +99,7 @@ fn class_with(alloc: Global, text: &str, behind: &str) -> Result<Vec<u8>, OutOfM
     Ok(bytes)
 }
 
-/// Asserts that of each descriptor just its fault is told, where the member that has it is so many bytes
+/// Asserts that of each descriptor just its fault is found, where the member that has it is so many bytes
 /// behind the constants.
 fn try_each(
     rt: &impl Abort,
@@ -116,19 +116,16 @@ fn try_each(
             Some(ClassKind::Descriptor) => Some((at + 4, ClassKind::Descriptor)),
             Some(kind) => Some((at, *kind)),
         };
-        assert_eq!(rt; told(alloc, bytes.as_slice())?, want, "{text}");
+        assert_eq!(rt; first_fault(alloc, bytes.as_slice())?, want, "{text}");
     }
     Ok(())
 }
 
 #[test]
-fn descriptors_of_fields_are_told(rt: HostRuntime) -> Result<(), Fail> {
-    let behind = "0021 0002 0002 0000 0001 0002 0003 0007 0000 0000 0000";
-    try_each(&rt, rt.alloc(), &FIELDS, behind, 10)
-}
-
-#[test]
-fn descriptors_of_methods_are_told(rt: HostRuntime) -> Result<(), Fail> {
-    let behind = "0021 0002 0002 0000 0000 0001 0401 0003 0007 0000 0000";
-    try_each(&rt, rt.alloc(), &METHODS, behind, 12)
+fn descriptors_are_read_or_have_these_first_faults(rt: HostRuntime) -> Result<(), Fail> {
+    let alloc = rt.alloc();
+    let field = "0021 0002 0002 0000 0001 0002 0003 0007 0000 0000 0000";
+    try_each(&rt, alloc, &FIELDS, field, 10)?;
+    let method = "0021 0002 0002 0000 0000 0001 0401 0003 0007 0000 0000";
+    try_each(&rt, alloc, &METHODS, method, 12)
 }

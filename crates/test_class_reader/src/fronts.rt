@@ -1,6 +1,6 @@
 //! The first class, cut off, with a byte more, and with other bytes at its front.
 
-use crate::parts::{bytes_of, told};
+use crate::parts::{bytes_of, first_fault};
 use first_class::FIRST_CLASS;
 use jx_base::{ClassKind, OutOfMemory};
 use std::alloc::Global;
@@ -22,7 +22,7 @@ static PATCHES: [(&str, usize, &str, Option<(u32, ClassKind)>); 14] = [
         Some((0, ClassKind::Magic)),
     ),
     (
-        "a magic number is told before the version",
+        "a magic number is found before the version",
         0,
         "00000000 0000 0035",
         Some((0, ClassKind::Magic)),
@@ -41,7 +41,7 @@ static PATCHES: [(&str, usize, &str, Option<(u32, ClassKind)>); 14] = [
         Some((6, ClassKind::Version)),
     ),
     (
-        "a version is told before the count",
+        "a version is found before the count",
         6,
         "0035 0000",
         Some((6, ClassKind::Version)),
@@ -60,11 +60,11 @@ fn patched(alloc: Global, place: usize, hex: &str) -> Result<Vec<u8>, OutOfMemor
 }
 
 #[test]
-fn heads_are_told(rt: HostRuntime) -> Result<(), Fail> {
+fn heads_have_these_first_faults(rt: HostRuntime) -> Result<(), Fail> {
     let alloc = rt.alloc();
     for (name, place, hex, want) in &PATCHES {
         let bytes = patched(alloc, *place, hex)?;
-        assert_eq!(rt; told(alloc, bytes.as_slice())?, *want, "{name}");
+        assert_eq!(rt; first_fault(alloc, bytes.as_slice())?, *want, "{name}");
     }
     Ok(())
 }
@@ -74,7 +74,11 @@ fn each_front_is_truncated(rt: HostRuntime) -> Result<(), Fail> {
     let alloc = rt.alloc();
     for k in 0..191 {
         let want = Some((k, ClassKind::Truncated));
-        assert_eq!(rt; told(alloc, &FIRST_CLASS[..k as usize])?, want, "{k} bytes");
+        assert_eq!(rt;
+            first_fault(alloc, &FIRST_CLASS[..k as usize])?,
+            want,
+            "{k} bytes"
+        );
     }
     Ok(())
 }
@@ -85,7 +89,7 @@ fn byte_more_is_trailing(rt: HostRuntime) -> Result<(), Fail> {
     let mut bytes = Vec::from_slice(alloc, &FIRST_CLASS)?;
     bytes.push(0)?;
     assert_eq!(rt;
-        told(alloc, bytes.as_slice())?,
+        first_fault(alloc, bytes.as_slice())?,
         Some((191, ClassKind::Trailing))
     );
     Ok(())

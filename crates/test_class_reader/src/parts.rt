@@ -6,7 +6,7 @@ use std::alloc::Global;
 use std::process::Abort;
 use std::test::Fail;
 
-/// A name, what stands behind the six constants, and the fault that is told.
+/// A name, what stands behind the six constants, and the fault that is found.
 pub type Case = (&'static str, &'static str, Option<(u32, ClassKind)>);
 
 /// What stands behind the constants of a class of no members: 14 bytes.
@@ -67,7 +67,7 @@ pub fn read(alloc: Global, bytes: &[u8]) -> Result<ClassFile, ReadFault> {
 }
 
 /// The fault of the bytes, or none where they are read.
-pub fn told(alloc: Global, bytes: &[u8]) -> Result<Option<(u32, ClassKind)>, ReadFault> {
+pub fn first_fault(alloc: Global, bytes: &[u8]) -> Result<Option<(u32, ClassKind)>, ReadFault> {
     match read(alloc, bytes) {
         Ok(_) => Ok(None),
         Err(ReadFault::Bad(ClassFault { at, kind })) => Ok(Some((at, kind))),
@@ -75,7 +75,7 @@ pub fn told(alloc: Global, bytes: &[u8]) -> Result<Option<(u32, ClassKind)>, Rea
     }
 }
 
-/// Asserts that of the class file of those parts just that fault is told.
+/// Asserts that of the class file of those parts just that fault is found.
 pub fn try_class(
     rt: &impl Abort,
     alloc: Global,
@@ -84,7 +84,7 @@ pub fn try_class(
     want: Option<(u32, ClassKind)>,
 ) -> Result<(), Fail> {
     let bytes = class_of(alloc, parts)?;
-    assert_eq!(rt; told(alloc, bytes.as_slice())?, want, "{name}");
+    assert_eq!(rt; first_fault(alloc, bytes.as_slice())?, want, "{name}");
     Ok(())
 }
 
@@ -94,7 +94,7 @@ pub fn try_each(rt: &impl Abort, alloc: Global, front: &str, cases: &[Case]) -> 
     for (name, behind, want) in cases {
         let mut bytes = class_of(alloc, ["0007", "", front])?;
         push_hex(&mut bytes, behind)?;
-        assert_eq!(rt; told(alloc, bytes.as_slice())?, *want, "{name}");
+        assert_eq!(rt; first_fault(alloc, bytes.as_slice())?, *want, "{name}");
     }
     Ok(())
 }

@@ -6,11 +6,11 @@ use std::alloc::Global;
 use std::test::Fail;
 
 // How many instructions code has; or the place and the kind of its first fault.
-type Told = (usize, Option<CodeKind>);
+type Found = (usize, Option<CodeKind>);
 
-const NO_ANSWER: Told = (1_000_000, None);
+const NO_ANSWER: Found = (1_000_000, None);
 
-fn told(alloc: Global, code: &[u8], table: &[Range]) -> Told {
+fn found(alloc: Global, code: &[u8], table: &[Range]) -> Found {
     if code.len() > 65_535 {
         return NO_ANSWER;
     }
@@ -72,7 +72,7 @@ fn with_operands(opcode: u8) -> [u8; 24] {
     code
 }
 
-fn told_alone(opcode: u8, shortest: u8) -> Told {
+fn fault_alone(opcode: u8, shortest: u8) -> Found {
     match shortest {
         LEFT_OUT => (0, Some(CodeKind::LeftOut)),
         UNKNOWN => (0, Some(CodeKind::Opcode)),
@@ -81,21 +81,21 @@ fn told_alone(opcode: u8, shortest: u8) -> Told {
 }
 
 #[test]
-fn each_opcode_alone(rt: HostRuntime) {
+fn each_opcode_alone_is_read_or_has_its_fault(rt: HostRuntime) {
     let alloc = rt.alloc();
     for opcode in 0..=u8::MAX {
         let shortest = SHORTEST[usize::from(opcode / 16)][usize::from(opcode % 16)];
         let code = with_operands(opcode);
         let whole = front(&code, usize::from(shortest) + 1);
         assert_eq!(rt;
-            told(alloc, whole, &[]),
-            told_alone(opcode, shortest),
+            found(alloc, whole, &[]),
+            fault_alone(opcode, shortest),
             "{opcode:x}"
         );
         if shortest > 0 && shortest < LEFT_OUT {
             let cut = front(&code, usize::from(shortest));
             assert_eq!(rt;
-                told(alloc, cut, &[]),
+                found(alloc, cut, &[]),
                 (0, Some(CodeKind::Truncated)),
                 "{opcode:x}"
             );
@@ -103,7 +103,7 @@ fn each_opcode_alone(rt: HostRuntime) {
     }
 }
 
-fn told_wide(opcode: u8, length: usize) -> Told {
+fn fault_behind_wide(opcode: u8, length: usize) -> Found {
     match opcode {
         0x15 | 0x16 | 0x19 | 0x36 | 0x37 | 0x3a if length == 4 => (1, None),
         0x84 if length == 6 => (1, None),
@@ -116,15 +116,15 @@ fn told_wide(opcode: u8, length: usize) -> Told {
 }
 
 #[test]
-fn wide_before_each_opcode(rt: HostRuntime) {
+fn wide_widens_just_its_opcodes(rt: HostRuntime) {
     let alloc = rt.alloc();
-    assert_eq!(rt; told(alloc, &[0xc4], &[]), (0, Some(CodeKind::Truncated)));
+    assert_eq!(rt; found(alloc, &[0xc4], &[]), (0, Some(CodeKind::Truncated)));
     for opcode in 0..=u8::MAX {
         let code = [0xc4, opcode, 0, 0, 0, 0];
         let length = if opcode == 0x84 { 6 } else { 4 };
         for length in [length, length - 1] {
-            let told = told(alloc, front(&code, length), &[]);
-            assert_eq!(rt; told, told_wide(opcode, length), "{opcode:x}");
+            let answer = found(alloc, front(&code, length), &[]);
+            assert_eq!(rt; answer, fault_behind_wide(opcode, length), "{opcode:x}");
         }
     }
 }
@@ -139,14 +139,14 @@ static LOOKUP: [u8; 28] = [
 ];
 
 #[test]
-fn switches_are_cut_at_each_byte(rt: HostRuntime) {
+fn switches_are_truncated_at_each_byte(rt: HostRuntime) {
     let alloc = rt.alloc();
     for code in [TABLE.as_slice(), LOOKUP.as_slice()] {
-        assert_eq!(rt; told(alloc, code, &[]), (1, None));
+        assert_eq!(rt; found(alloc, code, &[]), (1, None));
         for length in 1..code.len() {
             let cut = front(code, length);
             assert_eq!(rt;
-                told(alloc, cut, &[]),
+                found(alloc, cut, &[]),
                 (0, Some(CodeKind::Truncated)),
                 "{length}"
             );
@@ -155,7 +155,7 @@ fn switches_are_cut_at_each_byte(rt: HostRuntime) {
 }
 
 #[test]
-fn small_codes(rt: HostRuntime) {
+fn small_codes_have_these_first_faults(rt: HostRuntime) {
     let alloc = rt.alloc();
     for (code, wanted) in [
         ([].as_slice(), (0, None)),
@@ -182,13 +182,13 @@ fn small_codes(rt: HostRuntime) {
         (&[0xbc, 12], (0, Some(CodeKind::Opcode))),
         (&[0xc5, 0, 0, 0], (0, Some(CodeKind::Opcode))),
     ] {
-        assert_eq!(rt; told(alloc, code, &[]), wanted, "{code:?}");
+        assert_eq!(rt; found(alloc, code, &[]), wanted, "{code:?}");
     }
-    assert_eq!(rt; told(alloc, &[0; 65_535], &[]), (65_535, None));
+    assert_eq!(rt; found(alloc, &[0; 65_535], &[]), (65_535, None));
 }
 
 #[test]
-fn switches(rt: HostRuntime) {
+fn switches_have_these_first_faults(rt: HostRuntime) {
     let alloc = rt.alloc();
     for (code, wanted) in [
         // tableswitch behind one, two and three bytes
@@ -265,7 +265,7 @@ fn switches(rt: HostRuntime) {
             (1, None),
         ),
     ] {
-        assert_eq!(rt; told(alloc, code, &[]), wanted, "{code:?}");
+        assert_eq!(rt; found(alloc, code, &[]), wanted, "{code:?}");
     }
 }
 
@@ -279,7 +279,7 @@ fn range(start: u32, end: u32, handler: u32) -> Range {
 }
 
 #[test]
-fn exception_tables(rt: HostRuntime) {
+fn exception_tables_have_these_first_faults(rt: HostRuntime) {
     let alloc = rt.alloc();
     // instructions start at 0, 2 and 3
     let code = [0x10, 7, 0x57, 0xb1];
@@ -297,14 +297,14 @@ fn exception_tables(rt: HostRuntime) {
     ] {
         let table = [range(0, 4, 2), range(start, end, handler)];
         assert_eq!(rt;
-            told(alloc, &code, &table),
+            found(alloc, &code, &table),
             wanted,
             "{start} {end} {handler}"
         );
     }
     let astray = [0xa7, 0, 1];
     let table = [range(1, 1, 1)];
-    assert_eq!(rt; told(alloc, &astray, &table), (0, Some(CodeKind::Target)));
+    assert_eq!(rt; found(alloc, &astray, &table), (0, Some(CodeKind::Target)));
 }
 
 fn last_operands(alloc: Global, code: &[u8]) -> Option<Vec<i32>> {

@@ -16,7 +16,7 @@ pub returns : goal.returns
 returns c other =
     let name = c.args.name.now in
     let entries = c.self.inside.pcs.entries in
-    let same : c.in_ok-name.name ≡ name = c.in_ok-name.ensures ∙ c.as_slice.ensures in
+    let same : c.in_ok-name.name ≡ name = c.in_ok-name.ensures in
     let absent : is_some (mark_of (marks_in entries) name) ≡ false = sym (c.contains_key.ensures ∙ ap is_some (mark_found entries name)) ∙ c.if-contains_key.false in
     ap (λ marks. mark_of marks other)
     (ap marks_in (c.in_ok-insert.ensures.entries ∙ ap (λ name. insert_entry bytes_eq entries name c.args.pc) same)
