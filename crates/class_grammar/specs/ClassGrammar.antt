@@ -115,7 +115,7 @@ IsShortCode (Some c) = length c.code < 2 ^ 16
 abbrev pub HasShortCodes : List Member → Type 0
 HasShortCodes methods = AllByRecursion (λ m. IsShortCode m.code) methods
 
--- what a computed row opens
+-- what a computed case opens
 unfoldable pub opened_class_grammar : Unit {0}
 unfolding version_part pool_part interface_part heading_part fields_part methods_part
     class_file_part

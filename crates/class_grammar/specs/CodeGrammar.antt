@@ -255,7 +255,7 @@ instructions_reading size (suc k) (b ∷ bytes) =
     onward ((instruction_part (size - length (b ∷ bytes))).reads (b ∷ bytes)) (λ i rest.
     in_front i (instructions_reading size k rest))
 
--- what a computed row opens
+-- what a computed case opens
 unfoldable pub opened_code_grammar : Unit {0}
 unfolding unsigned_operand signed_operand target_operand interface_operands array_type_operand
     dimensions_operands increment_operands padding_length table_operands key_operands keys_rise

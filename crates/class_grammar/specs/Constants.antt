@@ -177,7 +177,7 @@ misnaming_fault constants at (c ∷ cs) =
     if names_rightly constants c then misnaming_fault constants (at + constant_length c) cs
     else Some (class_fault at kind.Index)
 
--- what a computed row opens
+-- what a computed case opens
 unfoldable pub opened_constants : Unit {0}
 unfolding constant_tags tag_of index_pair utf8_body skipped_body constant_body constant_part
     is_double_width constants_part text_of_constant text_at is_text is_class is_name_and_type

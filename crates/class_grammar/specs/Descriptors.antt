@@ -167,7 +167,7 @@ method_type_of (u ∷ units) =
       | Some x ↦ with_result x.0 (result_of x.1)
     ] else None
 
--- what a computed row opens
+-- what a computed case opens
 unfoldable pub opened_descriptors : Unit {0}
 unfolding is_number_letter base_text type_text result_text method_type_text is_floating_base
     is_floating is_floating_result has_floating object_at base_at under_dimensions type_at

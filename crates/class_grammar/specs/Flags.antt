@@ -25,7 +25,7 @@ is_interface_flag flags = has_flag 0x0200 flags
 unfoldable pub is_abstract : ℕ → Bool
 is_abstract flags = has_flag 0x0400 flags
 
--- what a computed row opens
+-- what a computed case opens
 unfoldable pub opened_flags : Unit {0}
 unfolding has_flag is_static is_synchronized is_native is_interface_flag is_abstract
 opened_flags = tt

@@ -158,7 +158,7 @@ field_part size constants = do
   skipped_attributes size (cut_off size) constants
   done (record { flags = flags; name = name; descriptor = descriptor; code = None } ∷ [])
 
--- what a computed row opens
+-- what a computed case opens
 unfoldable pub opened_members : Unit {0}
 unfolding name_part class_index skipped_attribute skipped_attributes catches_class range_part
     table_part code_part code_body is_code_name method_attributes is_supported_method method_part

@@ -67,7 +67,7 @@ text_of_bytes (b ∷ c ∷ d ∷ bytes) =
     else if is_two b c then with_unit (unit_of_two b c) (text_of_bytes (d ∷ bytes))
     else if is_three b c d then with_unit (unit_of_three b c d) (text_of_bytes bytes) else None
 
--- what a computed row opens
+-- what a computed case opens
 unfoldable pub opened_utf8 : Unit {0}
 unfolding unit_bytes is_continuation begins_one begins_two begins_three unit_of_two unit_of_three
     is_two is_three with_unit text_of_bytes

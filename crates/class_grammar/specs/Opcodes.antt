@@ -272,7 +272,7 @@ is_left_out_wide n = list_any (λ k. k == n) (0x17 ∷ 0x18 ∷ 0x38 ∷ 0x39 �
 unfoldable pub wide_form_at : ℕ → Form
 wide_form_at n = if is_left_out_wide n then form.LeftOut else wide_form_of (row_at n)
 
--- what a computed row opens
+-- what a computed case opens
 unfoldable pub opened_opcodes : Unit {0}
 unfolding opcode plain_opcode left_out unassigned constants loads stores stack_forms arithmetic
     conversions comparisons control references extended opcodes opcode_at row_at form_at

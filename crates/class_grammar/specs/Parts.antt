@@ -184,7 +184,7 @@ number f w = record {
       else Ok (from_be_bytes w (take (byte_len w) text), drop (byte_len w) text);
 }
 
--- what a computed row opens
+-- what a computed case opens
 unfoldable pub opened_parts : Unit {0}
 unfolding repeated bytes_of number
 opened_parts = tt

@@ -10,7 +10,6 @@ use Rattle.class_grammar.specs.Descriptors.{opened_descriptors}
 use Rattle.class_grammar.specs.Constants.{opened_constants, class_fault}
 use Rattle.class_grammar.specs.Members.{opened_members}
 use Rattle.class_grammar.specs.ClassGrammar.{opened_class_grammar, class_file_part}
-
 use Rattle.class_grammar.specs.CodeGrammar.{opened_code_grammar}
 use Rattle.code_reader.specs.CodeReading.{is_marked, leads_astray, is_good_range, code_reading}
 use Rattle.class_grammar.specs.Parts.{opened_parts}

@@ -83,7 +83,7 @@ parts_of size n = (n + (size - 1)) / size
 unfoldable pub low_byte : ℤ → ℕ → ℕ
 low_byte v k = cast_unsigned w32 v / 256 ^ k % 256
 
--- what a computed row opens
+-- what a computed case opens
 unfoldable pub opened_basics : Unit {0}
 unfolding up_to numbered contains_number is_number passes first_some not_below_zero distinct_after
     distinct added all_added has_text first_fault parts_of low_byte

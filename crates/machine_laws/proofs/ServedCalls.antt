@@ -28,7 +28,7 @@ use Rattle.machine_model.specs.ObjectRows.{ObjectOutcome, object_row, all_fit}
 use Rattle.machine_model.specs.ObjectRows.{ObjectOutcome as object}
 use Rattle.machine_model.specs.State.{Store, Stage, Going, Returned, Threw, Bad, Thread, State, class_of_object, new_object, new_exception, frame_of, is_overflow, frames_at_handler, code_bytes, class_of_frame, stack_limit}
 use Rattle.machine_model.specs.MachineThreads.{thread_at, with_thread, with_store, with_less_fuel, at_rest, idle_thread, with_frames, with_stage, core_of, after_throw, after_raise, after_begin, after_finish, start_arguments}
-use Rattle.machine_model.specs.Running.{Outcome, Step, Ask, step, stage_step, framed_step, row, ends_by_bad_code, after_numeric, after_object, after_steps, state_at_act}
+use Rattle.machine_model.specs.Running.{StepOutcome, Step, Ask, step, stage_step, framed_step, row, ends_by_bad_code, after_numeric, after_object, after_steps, state_at_act}
 use Rattle.machine_model.specs.Start.{start_of}
 use Rattle.machine_model.specs.AfterEntry.{after_result, after_split, exception_of, after_reply, with_nodes, root_values, after_built_in, after_selection, selected_at, after_roots, parameters_of, after_take, expected_types, after_value, thrown_root, after_thrown, after_resume, exported_object, with_export, after_end, with_running_thread, after_act, after_entry}
 use Rattle.machine_laws.specs.Values.{ServesKnownCall, ServeKnownCalls}
@@ -38,7 +38,7 @@ use Rattle.std.specs.Option.{unwrap_or}
 
 module _ (s : System) where
   -- a step that gives a state keeps the calls known
-  abbrev pub IsStepOfKnown : Outcome → Type 0
+  abbrev pub IsStepOfKnown : StepOutcome → Type 0
   IsStepOfKnown (Step new) = ServeKnownCalls new
   IsStepOfKnown (Ask a) = Unit {0}
 
@@ -150,13 +150,13 @@ module _ (s : System) where
   framed_known st t x [] h k = tt
   framed_known st t x (f ∷ fs) h k = by (instruction_at (code_bytes s f) f.pc)
     where
-      fueled : (i : Reading) (b : Bool) → IsStepOfKnown (elim b as (λ _. Outcome) [ true ↦ Ask (act.End reason.Fuel) | false ↦ row s st t x f fs i ])
+      fueled : (i : Reading) (b : Bool) → IsStepOfKnown (elim b as (λ _. StepOutcome) [ true ↦ Ask (act.End reason.Fuel) | false ↦ row s st t x f fs i ])
       fueled i true = tt
       fueled i false = row_known st t x f fs i h k
 
-      by : (o : Option Reading) → IsStepOfKnown (elim o as (λ _. Outcome) [
+      by : (o : Option Reading) → IsStepOfKnown (elim o as (λ _. StepOutcome) [
         | None ↦ Ask (act.End reason.BadCode)
-        | Some i ↦ elim (st.fuel == 0) as (λ _. Outcome) [ true ↦ Ask (act.End reason.Fuel) | false ↦ row s st t x f fs i ]
+        | Some i ↦ elim (st.fuel == 0) as (λ _. StepOutcome) [ true ↦ Ask (act.End reason.Fuel) | false ↦ row s st t x f fs i ]
       ])
       by None = tt
       by (Some i) = fueled i (st.fuel == 0)
@@ -172,7 +172,7 @@ module _ (s : System) where
   unfolding step thread_at ends_by_bad_code
   step_known st t h = by (slice_get st.threads t) refl
     where
-      by : (o : Option Thread) → slice_get st.threads t ≡ o → IsStepOfKnown (elim o as (λ _. Outcome) [ None ↦ Ask (act.End reason.BadCode) | Some x ↦ stage_step s st t x x.stage ])
+      by : (o : Option Thread) → slice_get st.threads t ≡ o → IsStepOfKnown (elim o as (λ _. StepOutcome) [ None ↦ Ask (act.End reason.BadCode) | Some x ↦ stage_step s st t x x.stage ])
       by None e = tt
       by (Some x) e = staged_known st t x x.stage h (all_get ServesKnownCall st.threads t x e h)
 
@@ -181,7 +181,7 @@ module _ (s : System) where
   steps_known t zero st h = h
   steps_known t (suc n) st h = by (step s st t) (step_known st t h) (λ new k. steps_known t n new k)
     where
-      by : (o : Outcome) → IsStepOfKnown o → ((new : State) → ServeKnownCalls new → ServeKnownCalls (after_steps s t n new)) → ServeKnownCalls (elim o as (λ _. State) [ Step new ↦ after_steps s t n new | Ask a ↦ st ])
+      by : (o : StepOutcome) → IsStepOfKnown o → ((new : State) → ServeKnownCalls new → ServeKnownCalls (after_steps s t n new)) → ServeKnownCalls (elim o as (λ _. State) [ Step new ↦ after_steps s t n new | Ask a ↦ st ])
       by (Step new) k again = again new k
       by (Ask a) k again = h
 

@@ -17,7 +17,7 @@ use Rattle.machine_model.specs.State.{Stage, Going, Thread, State, class_of_obje
 use Rattle.machine_model.specs.ObjectRows.{ObjectOutcome, object_row}
 use Rattle.machine_model.specs.ObjectRows.{ObjectOutcome as object}
 use Rattle.machine_model.specs.MachineThreads.{thread_at, with_thread, with_store, with_less_fuel, with_frames, with_stage, core_of, after_throw, after_raise, after_begin, after_finish}
-use Rattle.machine_model.specs.Running.{Outcome, Step, Ask, step, stage_step, framed_step, row, ends_by_bad_code, after_numeric, after_object, after_steps, state_at_act}
+use Rattle.machine_model.specs.Running.{StepOutcome, Step, Ask, step, stage_step, framed_step, row, ends_by_bad_code, after_numeric, after_object, after_steps, state_at_act}
 use Rattle.machine_model.specs.AfterEntry.{after_entry}
 use Rattle.machine_model.specs.Machine.{Does, Idle, domain_state, act_in, next_act}
 use Rattle.machine_laws.specs.Standing.{advanced, Stands, Asks, StepsTo, StandingHolds}
@@ -31,7 +31,7 @@ pub record Keeps (old new : State) : Type 0 where
   pub fuel : new.fuel ≡ old.fuel
 
 -- the same thread runs, with one less of the fuel
-abbrev pub StepKeeps : State → Outcome → Type 0
+abbrev pub StepKeeps : State → StepOutcome → Type 0
 StepKeeps st (Step new) = Keeps (with_less_fuel st) new
 StepKeeps st (Ask a) = ⊤
 
@@ -97,11 +97,11 @@ row_keeps s st t x f fs i = by (numeric_row s (class_of_frame s f) (stack_limit 
     by numeric.BadCode e = rw e (numeric_keeps s st t x f fs i.next numeric.BadCode)
 
 -- a step takes one of the fuel, and there is no step without fuel
-abbrev StepSpends : State → Outcome → Type 0
+abbrev StepSpends : State → StepOutcome → Type 0
 StepSpends st (Step new) = (new.running ≡ st.running) × (suc new.fuel ≡ st.fuel)
 StepSpends st (Ask a) = ⊤
 
-spent : (st : State) (o : Outcome) → (st.fuel == 0) ≡ false → StepKeeps st o → StepSpends st o
+spent : (st : State) (o : StepOutcome) → (st.fuel == 0) ≡ false → StepKeeps st o → StepSpends st o
 unfolding with_less_fuel
 spent st (Step new) h k = (k.running, grind (arith, nat_tests, h, k.fuel))
 spent st (Ask a) h k = tt
@@ -111,7 +111,7 @@ unfolding framed_step ends_by_bad_code
 framed_spends s st t x [] = tt
 framed_spends s st t x (f ∷ fs) = by (instruction_at (code_bytes s f) f.pc) refl
   where
-    here : (i : Reading) (b : Bool) → (st.fuel == 0) ≡ b → StepSpends st (elim b as (λ _. Outcome) [ true ↦ Ask (act.End reason.Fuel) | false ↦ row s st t x f fs i ])
+    here : (i : Reading) (b : Bool) → (st.fuel == 0) ≡ b → StepSpends st (elim b as (λ _. StepOutcome) [ true ↦ Ask (act.End reason.Fuel) | false ↦ row s st t x f fs i ])
     here i true q = tt
     here i false q = spent st (row s st t x f fs i) q (row_keeps s st t x f fs i)
 
@@ -129,14 +129,14 @@ pub step_spends : (s : System) (st : State) (t : ℕ) → StepSpends st (step s 
 unfolding step ends_by_bad_code
 step_spends s st t = by (thread_at st t)
   where
-    by : (o : Option Thread) → StepSpends st (elim o as (λ _. Outcome) [ None ↦ ends_by_bad_code | Some x ↦ stage_step s st t x x.stage ])
+    by : (o : Option Thread) → StepSpends st (elim o as (λ _. StepOutcome) [ None ↦ ends_by_bad_code | Some x ↦ stage_step s st t x x.stage ])
     by None = tt
     by (Some x) = stage_spends s st t x x.stage
 
 -- ---- so many steps
 
 -- a step is a state or an act
-step_cases : (o : Outcome) → ((new : State) × (o ≡ Step new)) ⊎ ((a : Act) × (o ≡ Ask a))
+step_cases : (o : StepOutcome) → ((new : State) × (o ≡ Step new)) ⊎ ((a : Act) × (o ≡ Ask a))
 step_cases (Step new) = inl (new, refl)
 step_cases (Ask a) = inr (a, refl)
 

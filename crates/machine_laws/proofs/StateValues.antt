@@ -25,7 +25,7 @@ use Rattle.program_model.specs.ParcelParts.{opened_parcel_parts}
 use Rattle.program_model.specs.Parcels.{packed}
 use Rattle.machine_model.specs.State.{Store, Core, Stage, Going, Returned, Threw, Bad, Thread, State, class_of_object, new_exception, frame_of, is_overflow, is_overfull, handler_in, frames_at_handler, code_bytes, class_of_frame, stack_limit, with_values, pc_behind}
 use Rattle.machine_model.specs.MachineThreads.{thread_at, with_thread, with_store, with_less_fuel, with_frames, with_stage, core_of, after_throw, after_raise, after_begin, after_finish, start_arguments, is_initializer_selector}
-use Rattle.machine_model.specs.Running.{Outcome, Step, Ask, step, stage_step, framed_step, row, ends_by_bad_code, after_numeric, after_object, after_steps, state_at_act, ending_act, answer_act, result_roots, empty_parcel}
+use Rattle.machine_model.specs.Running.{StepOutcome, Step, Ask, step, stage_step, framed_step, row, ends_by_bad_code, after_numeric, after_object, after_steps, state_at_act, ending_act, answer_act, result_roots, empty_parcel}
 use Rattle.machine_model.specs.Machine.{NextAct, Does, Idle, act_in}
 use Rattle.jx_model.specs.WellMade.{IsClass, IsWellMade, IsParcelIn}
 use Rattle.machine_laws.specs.Values.{IsValueIn, IsValueInSome, IsObject, IsStoreIn, IsFrameIn, IsStageIn, IsThreadIn, IsStateIn, IsPlaced, ServesKnownCall, ServeKnownCalls}
@@ -42,7 +42,7 @@ use Rattle.machine_laws.proofs.Stores.{IsLater, exception_in, grows_to, frames_g
 use Rattle.std.specs.Option.{option_map, unwrap_or}
 
 -- the state after a step is one of values, or the act is well made
-abbrev pub IsStepIn : System → Past → Outcome → Type 0
+abbrev pub IsStepIn : System → Past → StepOutcome → Type 0
 IsStepIn s past (Step new) = IsStateIn s past new
 IsStepIn s past (Ask a) = IsWellMade s past a
 
@@ -203,12 +203,12 @@ module _ (s : System) (past : Past) (z : IsSound s) where
   framed_in st t x [] h k e = inr refl
   framed_in st t x (f ∷ fs) h k e = by (instruction_at (code_bytes s f) f.pc) refl
     where
-      fueled : (i : Reading) → instruction_at (code_bytes s f) f.pc ≡ Some i → (b : Bool) → IsStepIn s past (elim b as (λ _. Outcome) [ true ↦ Ask (act.End reason.Fuel) | false ↦ row s st t x f fs i ])
+      fueled : (i : Reading) → instruction_at (code_bytes s f) f.pc ≡ Some i → (b : Bool) → IsStepIn s past (elim b as (λ _. StepOutcome) [ true ↦ Ask (act.End reason.Fuel) | false ↦ row s st t x f fs i ])
       fueled i q true = inl refl
       fueled i q false = row_step st t x f fs i h k e q
 
       by : (o : Option Reading) → instruction_at (code_bytes s f) f.pc ≡ o →
-          IsStepIn s past (elim o as (λ _. Outcome) [ None ↦ Ask (act.End reason.BadCode) | Some i ↦ elim (st.fuel == 0) as (λ _. Outcome) [ true ↦ Ask (act.End reason.Fuel) | false ↦ row s st t x f fs i ] ])
+          IsStepIn s past (elim o as (λ _. StepOutcome) [ None ↦ Ask (act.End reason.BadCode) | Some i ↦ elim (st.fuel == 0) as (λ _. StepOutcome) [ true ↦ Ask (act.End reason.Fuel) | false ↦ row s st t x f fs i ] ])
       by None q = inr refl
       by (Some i) q = fueled i q (st.fuel == 0)
 
@@ -268,7 +268,7 @@ module _ (s : System) (past : Past) (z : IsSound s) where
   unfolding step thread_at ends_by_bad_code
   step_in st t h known = by (slice_get st.threads t) refl
     where
-      by : (o : Option Thread) → slice_get st.threads t ≡ o → IsStepIn s past (elim o as (λ _. Outcome) [ None ↦ Ask (act.End reason.BadCode) | Some x ↦ stage_step s st t x x.stage ])
+      by : (o : Option Thread) → slice_get st.threads t ≡ o → IsStepIn s past (elim o as (λ _. StepOutcome) [ None ↦ Ask (act.End reason.BadCode) | Some x ↦ stage_step s st t x x.stage ])
       by None e = inr refl
       by (Some x) e = let k = all_get (IsThreadIn s past st.store) st.threads t x e h.threads in stage_in st t x x.stage h (all_get ServesKnownCall st.threads t x e known) k k.stage
 
@@ -277,7 +277,7 @@ module _ (s : System) (past : Past) (z : IsSound s) where
   steps_in t zero st h known = h
   steps_in t (suc n) st h known = by (step s st t) (step_in st t h known) (step_known s st t known) (λ new k m. steps_in t n new k m)
     where
-      by : (o : Outcome) → IsStepIn s past o → IsStepOfKnown s o → ((new : State) → IsStateIn s past new → ServeKnownCalls new → IsStateIn s past (after_steps s t n new)) → IsStateIn s past (elim o as (λ _. State) [ Step new ↦ after_steps s t n new | Ask a ↦ st ])
+      by : (o : StepOutcome) → IsStepIn s past o → IsStepOfKnown s o → ((new : State) → IsStateIn s past new → ServeKnownCalls new → IsStateIn s past (after_steps s t n new)) → IsStateIn s past (elim o as (λ _. State) [ Step new ↦ after_steps s t n new | Ask a ↦ st ])
       by (Step new) k m again = again new k m
       by (Ask a) k m again = h
 
@@ -308,7 +308,7 @@ module _ (s : System) (past : Past) (z : IsSound s) where
   unfolding act_in
   act_in_in st h known = by st.running
     where
-      stepped : (o : Outcome) → IsStepIn s past o → IsNextIn (elim o as (λ _. NextAct) [ Ask a ↦ Does a | Step new ↦ Does (act.End reason.Fuel) ])
+      stepped : (o : StepOutcome) → IsStepIn s past o → IsNextIn (elim o as (λ _. NextAct) [ Ask a ↦ Does a | Step new ↦ Does (act.End reason.Fuel) ])
       stepped (Step new) k = inl refl
       stepped (Ask a) k = k
 

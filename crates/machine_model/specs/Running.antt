@@ -20,18 +20,18 @@ use Rattle.machine_model.specs.MachineThreads.{thread_at, with_thread, with_stor
 use Rattle.std.specs.Option.{option_map}
 
 -- what one step of the running thread comes to: the state after an instruction, or the act that comes next
-pub data Outcome : Type 0 where
-  Step : State → Outcome
-  Ask : Act → Outcome
+pub data StepOutcome : Type 0 where
+  Step : State → StepOutcome
+  Ask : Act → StepOutcome
 
 -- the domain ends by bad code
-unfoldable pub ends_by_bad_code : Outcome
+unfoldable pub ends_by_bad_code : StepOutcome
 ends_by_bad_code = Ask (act.End reason.BadCode)
 
 -- ---- one instruction
 
 -- the state after a numeric row at frame f, which left it at that pc with these locals and that stack
-unfoldable pub after_numeric : System → State → ℕ → Thread → Frame → List Frame → ℕ → NumericOutcome → Outcome
+unfoldable pub after_numeric : System → State → ℕ → Thread → Frame → List Frame → ℕ → NumericOutcome → StepOutcome
 after_numeric s st t x f frames next (numeric.Next locals stack) =
     Step (with_thread (with_less_fuel st) t (record x { frames = record (with_values stack f) { pc = next; locals = locals } ∷ frames }))
 after_numeric s st t x f frames next (numeric.Jump to locals stack) =
@@ -40,7 +40,7 @@ after_numeric s st t x f frames next (numeric.Raise c) = Step (after_raise s (wi
 after_numeric s st t x f frames next _ = ends_by_bad_code
 
 -- the state after an object row
-unfoldable pub after_object : System → State → ℕ → Thread → ObjectOutcome → Outcome
+unfoldable pub after_object : System → State → ℕ → Thread → ObjectOutcome → StepOutcome
 after_object s st t x (object.Next core) = Step (with_thread (with_store (with_less_fuel st) core.store) t (record x { frames = core.frames }))
 after_object s st t x (object.Raise c) = Step (after_raise s (with_less_fuel st) t x c)
 after_object s st t x (object.Raised r core) = Step (after_throw s (with_store (with_less_fuel st) core.store) t x r)
@@ -49,15 +49,15 @@ after_object s st t x (object.Finish v core) = Step (after_finish s (with_store 
 after_object s st t x _ = ends_by_bad_code
 
 -- what the instruction at frame f comes to
-unfoldable pub row : System → State → ℕ → Thread → Frame → List Frame → Reading → Outcome
+unfoldable pub row : System → State → ℕ → Thread → Frame → List Frame → Reading → StepOutcome
 row s st t x f frames i = by (numeric_row s (class_of_frame s f) (stack_limit s f) i.instr f.locals f.stack.values)
   where
-    by : NumericOutcome → Outcome
+    by : NumericOutcome → StepOutcome
     by numeric.NotMine = after_object s st t x (object_row s (core_of st x) i.instr)
     by outcome = after_numeric s st t x f frames i.next outcome
 
 -- what a thread with frames comes to: past the code it is bad code, and without fuel the domain ends
-unfoldable pub framed_step : System → State → ℕ → Thread → List Frame → Outcome
+unfoldable pub framed_step : System → State → ℕ → Thread → List Frame → StepOutcome
 framed_step s st t x [] = ends_by_bad_code
 framed_step s st t x (f ∷ frames) =
     elim (instruction_at (code_bytes s f) f.pc) [
@@ -91,14 +91,14 @@ ending_act st x (Threw r) =
 ending_act st x _ = act.End reason.BadCode
 
 -- what a thread at that stage comes to
-unfoldable pub stage_step : System → State → ℕ → Thread → Stage → Outcome
+unfoldable pub stage_step : System → State → ℕ → Thread → Stage → StepOutcome
 stage_step s st t x Going = framed_step s st t x x.frames
 stage_step s st t x stage = Ask (ending_act st x stage)
 
 -- ---- up to the next act
 
 -- what thread t comes to
-unfoldable pub step : System → State → ℕ → Outcome
+unfoldable pub step : System → State → ℕ → StepOutcome
 step s st t = elim (thread_at st t) [ None ↦ ends_by_bad_code | Some x ↦ stage_step s st t x x.stage ]
 
 -- the state after so many instructions of thread t at most, up to its next act

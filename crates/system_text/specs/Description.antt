@@ -151,7 +151,7 @@ one_class_plan name = record {
   classes = name ∷ [];
 }
 
--- what a computed row opens
+-- what a computed case opens
 unfoldable pub opened_description : Unit {0}
 unfolding domains_in text_in classes_in number_in switch_in domain_array_fault domain_fault domains_fault top_keys domain_keys unknown_in_domains plan_fault class_names place_in described_template described_plan table_of one_class_plan
 opened_description = tt

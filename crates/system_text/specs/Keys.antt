@@ -130,7 +130,7 @@ unknown_fault known_keys written ms = elim (find (λ key. not (has_text known_ke
   | Some key ↦ Some (fault.Unknown (written (units_of key)))
 ]
 
--- what a computed row opens
+-- what a computed case opens
 unfoldable pub opened_keys : Unit {0}
 unfolding units_of domain_key repeated_after first_repeated items_in keys_in array_items is_text is_table fault_if required_fault optional_fault is_between number_fault switch_fault is_domain_name name_fault twice_fault are_classes classes_fault main_fault unknown_fault
 opened_keys = tt

@@ -135,7 +135,7 @@ capped_plan top = record {
   classes = names_of_all (domains_in top);
 }
 
--- what a computed row opens
+-- what a computed case opens
 unfoldable pub opened_scan : Unit {0}
 unfolding capped domain_items_fault are_more_classes class_names_fault class_items_fault more_classes_fault naming_fault sizing_fault next_domain_fault next_domains_fault machine_fault unknown_key_fault scanned_fault capped_template capped_plan
 opened_scan = tt
