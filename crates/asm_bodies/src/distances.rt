@@ -1,7 +1,8 @@
 //! Branches that are too far from their labels.
 ghost use Rattle.std.specs.Prelude.{◌≡◌, ◌<◌, length, IfOk, IfSome};
 ghost use Rattle.std.specs.List.{list_any};
-ghost use Rattle.asm_bodies.specs.Bodies.{is_near, is_far_operand, is_far, first_far_from, first_far_in, first_far};
+ghost use Rattle.asm_bodies.specs.Bodies.{is_near, is_far_operand, is_far, first_far_from};
+ghost use Rattle.asm_bodies.specs.Bodies.{first_far_in, first_far};
 ghost use Rattle.asm_bodies.specs.Lines.{is_method};
 
 use crate::lengths::{line_length, sum};

@@ -1,6 +1,7 @@
 //! The lengths of instructions.
 ghost use Rattle.std.specs.Prelude.{◌≡◌, ◌+◌, IfOk};
-ghost use Rattle.asm_bodies.specs.Needs.{line_length, opcode_length, operand_length, instruction_length};
+ghost use Rattle.asm_bodies.specs.Needs.{line_length, opcode_length, operand_length};
+ghost use Rattle.asm_bodies.specs.Needs.{instruction_length};
 
 use asm_lines::{Instruction, Line, Operand};
 use jx_base::OutOfMemory;

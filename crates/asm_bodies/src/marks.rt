@@ -46,7 +46,8 @@ impl Model for Marks {
 
     ghost Value = { List Mark };
 
-    ghost view = { λ marks. map (λ entry. record { name = entry.0; pc = entry.1 }) marks.pcs.entries };
+    ghost view = { λ marks. map
+        (λ entry. record { name = entry.0; pc = entry.1 }) marks.pcs.entries };
 }
 
 impl Marks {
@@ -67,7 +68,9 @@ impl Marks {
 
     // Adds a label, unless one of that name is there.
     fn add(&mut self, alloc: Global, name: &Text, pc: usize) -> Result<(), OutOfMemory>
-        ensures { OnOk result ((other : List ℕ) → mark_of self.new other ≡ mark_of (self.old ++ record { name = name.now; pc = pc } ∷ []) other) }
+        ensures { OnOk result ((other : List ℕ)
+            → mark_of self.new other
+            ≡ mark_of (self.old ++ record { name = name.now; pc = pc } ∷ []) other) }
     {
         if self.pcs.contains_key(name) {
             return Ok(());
@@ -79,7 +82,8 @@ impl Marks {
 
     // Adds the label that the line at `pc` says, if it says one.
     fn add_line(&mut self, alloc: Global, line: &Line, pc: usize) -> Result<(), OutOfMemory>
-        ensures { OnOk result ((other : List ℕ) → mark_of self.new other ≡ mark_of (self.old ++ line_marks pc line.now) other) }
+        ensures { OnOk result ((other : List ℕ)
+            → mark_of self.new other ≡ mark_of (self.old ++ line_marks pc line.now) other) }
     {
         match line {
             Line::Label(name) => self.add(alloc, name, pc),
@@ -90,7 +94,8 @@ impl Marks {
 
 /// The labels of a body. Of two labels with one name the first counts.
 pub fn marks_of(alloc: Global, body: &[Line]) -> Result<Marks, OutOfMemory>
-    ensures { IfOk result (λ marks. (name : List ℕ) → mark_of marks name ≡ mark_of (marks_of body.now) name) }
+    ensures { IfOk result (λ marks. (name : List ℕ)
+        → mark_of marks name ≡ mark_of (marks_of body.now) name) }
 {
     let mut marks = Marks::new(alloc);
     let mut pc = 0;

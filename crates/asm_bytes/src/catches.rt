@@ -23,7 +23,8 @@ fn push_caught(
     pool: &Pool,
     class: &Option<Text>,
 ) -> Result<(), OutOfMemory>
-    ensures { OnOk result (bytes.new.items ≡ bytes.old.items ++ two_bytes (class_index pool.now class.now)) }
+    ensures { OnOk result (bytes.new.items
+        ≡ bytes.old.items ++ two_bytes (class_index pool.now class.now)) }
 {
     match class {
         Some(name) => push_class(alloc, bytes, pool, name),
@@ -38,7 +39,8 @@ fn push_catch(
     marks: &Marks,
     catch: &Catch,
 ) -> Result<(), OutOfMemory>
-    ensures { OnOk result (bytes.new.items ≡ bytes.old.items ++ catch_bytes pool.now marks.now (line.Catch catch.now)) }
+    ensures { OnOk result (bytes.new.items
+        ≡ bytes.old.items ++ catch_bytes pool.now marks.now (line.Catch catch.now)) }
 {
     push_two(bytes, pc_of(marks, &catch.start))?;
     push_two(bytes, pc_of(marks, &catch.end))?;
@@ -55,7 +57,8 @@ fn push_catch_line(
     marks: &Marks,
     line: &Line,
 ) -> Result<(), OutOfMemory>
-    ensures { OnOk result (bytes.new.items ≡ bytes.old.items ++ catch_bytes pool.now marks.now line.now) }
+    ensures { OnOk result (bytes.new.items
+        ≡ bytes.old.items ++ catch_bytes pool.now marks.now line.now) }
 {
     match line {
         Line::Catch(catch) => push_catch(alloc, bytes, pool, marks, catch),
@@ -63,8 +66,8 @@ fn push_catch_line(
     }
 }
 
-/// Puts the exception table of a body with those labels behind the others, with its count of entries
-/// in front of it.
+/// Puts the exception table of a body with those labels behind the others, with its count of
+/// entries in front of it.
 pub fn push_catches(
     alloc: Global,
     bytes: &mut Vec<u8>,
@@ -72,7 +75,9 @@ pub fn push_catches(
     marks: &Marks,
     body: &[Line],
 ) -> Result<(), OutOfMemory>
-    ensures { OnOk result (bytes.new.items ≡ bytes.old.items ++ two_bytes (count_of is_catch body.now) ++ flat_map (catch_bytes pool.now marks.now) body.now) }
+    ensures { OnOk result (bytes.new.items
+        ≡ bytes.old.items ++ two_bytes (count_of is_catch body.now)
+        ++ flat_map (catch_bytes pool.now marks.now) body.now) }
 {
     push_two(bytes, catch_count(body))?;
     for line in body {

@@ -1,7 +1,8 @@
 //! The code of bodies.
 ghost use Rattle.std.specs.Prelude.{◌≡◌, ◌++◌, replicate, flat_map, OnOk, IfOk};
 ghost use Rattle.class_grammar.specs.CodeGrammar.{padding_length};
-ghost use Rattle.asm_bytes.specs.Files.{pc_of, distance, operand_bytes, opcode_bytes, instruction_bytes, line_bytes, code_from};
+ghost use Rattle.asm_bytes.specs.Files.{pc_of, distance, operand_bytes, opcode_bytes};
+ghost use Rattle.asm_bytes.specs.Files.{instruction_bytes, line_bytes, code_from};
 
 use crate::numbers::{push_four, push_two};
 use asm_bodies::{Marks, line_length, sum};
@@ -46,7 +47,8 @@ fn push_operand(
     pc: usize,
     operand: &Operand,
 ) -> Result<(), OutOfMemory>
-    ensures { OnOk result (bytes.new.items ≡ bytes.old.items ++ operand_bytes pool.now marks.now pc operand.now) }
+    ensures { OnOk result (bytes.new.items
+        ≡ bytes.old.items ++ operand_bytes pool.now marks.now pc operand.now) }
 {
     match operand {
         Operand::Byte(number) => bytes.extend_from_slice(&[*number]),
@@ -69,7 +71,8 @@ fn push_operands(
     pc: usize,
     operands: &[Operand],
 ) -> Result<(), OutOfMemory>
-    ensures { OnOk result (bytes.new.items ≡ bytes.old.items ++ flat_map (operand_bytes pool.now marks.now pc) operands.now) }
+    ensures { OnOk result (bytes.new.items
+        ≡ bytes.old.items ++ flat_map (operand_bytes pool.now marks.now pc) operands.now) }
 {
     for operand in operands {
         push_operand(bytes, pool, marks, pc, operand)?;
@@ -95,7 +98,8 @@ fn push_instruction(
     pc: usize,
     instruction: &Instruction,
 ) -> Result<(), OutOfMemory>
-    ensures { OnOk result (bytes.new.items ≡ bytes.old.items ++ instruction_bytes pool.now marks.now pc instruction.now) }
+    ensures { OnOk result (bytes.new.items
+        ≡ bytes.old.items ++ instruction_bytes pool.now marks.now pc instruction.now) }
 {
     push_opcode(bytes, instruction)?;
     push_operands(bytes, pool, marks, pc, instruction.operands.as_slice())
@@ -110,7 +114,8 @@ fn push_line(
     pc: usize,
     line: &Line,
 ) -> Result<(), OutOfMemory>
-    ensures { OnOk result (bytes.new.items ≡ bytes.old.items ++ line_bytes pool.now marks.now pc line.now) }
+    ensures { OnOk result (bytes.new.items
+        ≡ bytes.old.items ++ line_bytes pool.now marks.now pc line.now) }
 {
     match line {
         Line::Instruction(instruction) => push_instruction(bytes, pool, marks, pc, instruction),

@@ -2,7 +2,8 @@
 ghost use Rattle.std.specs.Prelude.{◌≡◌, ◌++◌, flat_map, OnOk, IfOk};
 ghost use Rattle.asm_constants.specs.Pools.{two_bytes};
 ghost use Rattle.asm_bodies.specs.Lines.{count_of, is_implements};
-ghost use Rattle.asm_bytes.specs.Files.{version_bytes, constants_bytes, heading_bytes, interface_bytes, file_with};
+ghost use Rattle.asm_bytes.specs.Files.{version_bytes, constants_bytes, heading_bytes};
+ghost use Rattle.asm_bytes.specs.Files.{interface_bytes, file_with};
 
 use crate::counts::interface_count;
 use crate::indices::push_class;
@@ -66,7 +67,8 @@ fn push_headings(
     pool: &Pool,
     lines: &[Line],
 ) -> Result<(), OutOfMemory>
-    ensures { OnOk result (bytes.new.items ≡ bytes.old.items ++ flat_map (heading_bytes pool.now) lines.now) }
+    ensures { OnOk result (bytes.new.items
+        ≡ bytes.old.items ++ flat_map (heading_bytes pool.now) lines.now) }
 {
     for line in lines {
         push_heading(alloc, bytes, pool, line)?;
@@ -96,7 +98,9 @@ fn push_interfaces(
     pool: &Pool,
     lines: &[Line],
 ) -> Result<(), OutOfMemory>
-    ensures { OnOk result (bytes.new.items ≡ bytes.old.items ++ two_bytes (count_of is_implements lines.now) ++ flat_map (interface_bytes pool.now) lines.now) }
+    ensures { OnOk result (bytes.new.items
+        ≡ bytes.old.items ++ two_bytes (count_of is_implements lines.now)
+        ++ flat_map (interface_bytes pool.now) lines.now) }
 {
     push_two(bytes, interface_count(lines))?;
     for line in lines {

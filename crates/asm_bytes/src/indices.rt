@@ -15,7 +15,8 @@ pub fn push_class(
     pool: &Pool,
     name: &Text,
 ) -> Result<(), OutOfMemory>
-    ensures { OnOk result (bytes.new.items ≡ bytes.old.items ++ two_bytes (index_of pool.now (Class name.now))) }
+    ensures { OnOk result (bytes.new.items
+        ≡ bytes.old.items ++ two_bytes (index_of pool.now (Class name.now))) }
 {
     let name = name.copy(alloc)?;
     push_two(bytes, pool.index(&Content::Class(name)))
@@ -28,7 +29,8 @@ pub fn push_text(
     pool: &Pool,
     text: &[u16],
 ) -> Result<(), OutOfMemory>
-    ensures { OnOk result (bytes.new.items ≡ bytes.old.items ++ two_bytes (index_of pool.now (Utf8 text.now))) }
+    ensures { OnOk result (bytes.new.items
+        ≡ bytes.old.items ++ two_bytes (index_of pool.now (Utf8 text.now))) }
 {
     let text = Text::from_slice(alloc, text)?;
     push_two(bytes, pool.index(&Content::Utf8(text)))

@@ -33,7 +33,8 @@ pub fn push_bare(
     pool: &Pool,
     member: &Member,
 ) -> Result<(), OutOfMemory>
-    ensures { OnOk result (bytes.new.items ≡ bytes.old.items ++ member_bytes pool.now member.now ++ two_bytes 0) }
+    ensures { OnOk result (bytes.new.items
+        ≡ bytes.old.items ++ member_bytes pool.now member.now ++ two_bytes 0) }
 {
     push_member(alloc, bytes, pool, member)?;
     push_two(bytes, 0)
@@ -62,7 +63,9 @@ pub fn push_fields(
     pool: &Pool,
     lines: &[Line],
 ) -> Result<(), OutOfMemory>
-    ensures { OnOk result (bytes.new.items ≡ bytes.old.items ++ two_bytes (count_of is_field lines.now) ++ flat_map (field_bytes pool.now) lines.now) }
+    ensures { OnOk result (bytes.new.items
+        ≡ bytes.old.items ++ two_bytes (count_of is_field lines.now)
+        ++ flat_map (field_bytes pool.now) lines.now) }
 {
     push_two(bytes, field_count(lines))?;
     for line in lines {

@@ -26,7 +26,8 @@ fn code_attribute(
     max_locals: u16,
     body: &[Line],
 ) -> Result<Vec<u8>, OutOfMemory>
-    ensures { IfOk result (λ bytes. bytes.items ≡ code_attribute pool.now max_stack max_locals body.now) }
+    ensures { IfOk result (λ bytes. bytes.items
+        ≡ code_attribute pool.now max_stack max_locals body.now) }
 {
     let marks = marks_of(alloc, body)?;
     let code = code_of(alloc, pool, &marks, body)?;
@@ -62,7 +63,8 @@ fn push_method(
     line: &Line,
     after: &[Line],
 ) -> Result<(), OutOfMemory>
-    ensures { OnOk result (bytes.new.items ≡ bytes.old.items ++ method_bytes pool.now line.now after.now) }
+    ensures { OnOk result (bytes.new.items
+        ≡ bytes.old.items ++ method_bytes pool.now line.now after.now) }
 {
     match line {
         Line::Abstract(member) => push_bare(alloc, bytes, pool, member),
@@ -82,7 +84,9 @@ pub fn push_methods(
     pool: &Pool,
     lines: &[Line],
 ) -> Result<(), OutOfMemory>
-    ensures { OnOk result (bytes.new.items ≡ bytes.old.items ++ two_bytes (count_of is_member lines.now) ++ methods_bytes pool.now lines.now) }
+    ensures { OnOk result (bytes.new.items
+        ≡ bytes.old.items ++ two_bytes (count_of is_member lines.now)
+        ++ methods_bytes pool.now lines.now) }
 {
     push_two(bytes, method_count(lines))?;
     for (i, line) in lines.iter().enumerate() {

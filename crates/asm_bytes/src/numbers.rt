@@ -22,7 +22,8 @@ pub fn push_four(bytes: &mut Vec<u8>, number: usize) -> Result<(), OutOfMemory>
 
 /// Puts a part behind the others, with its length in front of it.
 pub fn push_counted(bytes: &mut Vec<u8>, part: &[u8]) -> Result<(), OutOfMemory>
-    ensures { OnOk result (bytes.new.items ≡ bytes.old.items ++ four_bytes (length part.now) ++ part.now) }
+    ensures { OnOk result (bytes.new.items
+        ≡ bytes.old.items ++ four_bytes (length part.now) ++ part.now) }
 {
     push_four(bytes, part.len())?;
     bytes.extend_from_slice(part)

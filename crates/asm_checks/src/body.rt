@@ -30,7 +30,8 @@ fn with_label(
     labels: HashSet<Text>,
     line: &Line,
 ) -> Result<HashSet<Text>, OutOfMemory>
-    ensures { IfOk result (λ new. (name : List ℕ) → contains bytes_eq new name ≡ (contains bytes_eq labels name || is_label name line.now)) }
+    ensures { IfOk result (λ new. (name : List ℕ)
+        → contains bytes_eq new name ≡ (contains bytes_eq labels name || is_label name line.now)) }
 {
     let mut labels = labels;
     if let Line::Label(name) = line {
@@ -41,7 +42,8 @@ fn with_label(
 
 // The labels of a body.
 fn labels_of(alloc: Global, body: &[Line]) -> Result<HashSet<Text>, OutOfMemory>
-    ensures { IfOk result (λ labels. (name : List ℕ) → contains bytes_eq labels name ≡ has_label name body.now) }
+    ensures { IfOk result (λ labels. (name : List ℕ)
+        → contains bytes_eq labels name ≡ has_label name body.now) }
 {
     let mut labels = HashSet::new(alloc);
     for line in body {
@@ -66,7 +68,9 @@ impl Body {
 
     /// The body with one more line.
     pub fn with_line(self, alloc: Global, line: &Line) -> Result<Body, OutOfMemory>
-        ensures { IfOk result (λ body. (lines after : List SomeLine) → IsBodyOf self lines (line.now ∷ after) → goes_on line.now ≡ true → IsBodyOf body (lines ++ line.now ∷ []) after) }
+        ensures { IfOk result (λ body. (lines after : List SomeLine)
+            → IsBodyOf self lines (line.now ∷ after) → goes_on line.now ≡ true
+            → IsBodyOf body (lines ++ line.now ∷ []) after) }
     {
         let Body {
             pc,

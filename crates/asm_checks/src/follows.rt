@@ -2,8 +2,10 @@
 ghost use Rattle.std.specs.Prelude.{◌≡◌, ◌||◌, ◌∷◌, List, option_map};
 ghost use Rattle.asm_lines.specs.declared.line.Line.{Line as SomeLine};
 ghost use Rattle.asm_bodies.specs.Bodies.{goes_on};
-ghost use Rattle.asm_bodies.specs.Lines.{is_class, is_implements, is_field, is_method, is_step, is_catch, is_member};
-ghost use Rattle.asm_checks.specs.Faults.{may_follow, may_come_next, is_complete, is_inside, is_skipped, last_said, own_fault};
+ghost use Rattle.asm_bodies.specs.Lines.{is_class, is_implements, is_field, is_method, is_step};
+ghost use Rattle.asm_bodies.specs.Lines.{is_catch, is_member};
+ghost use Rattle.asm_checks.specs.Faults.{may_follow, may_come_next, is_complete, is_inside};
+ghost use Rattle.asm_checks.specs.Faults.{is_skipped, last_said, own_fault};
 
 use asm_lines::{AsmKind, Line};
 
@@ -137,7 +139,8 @@ pub fn is_complete(last: Option<&Line>) -> bool
 /// The last line that isn't skipped, with one more line.
 #[tactic(auto, unfolding(crate::specs::Faults::last_said))]
 pub fn last_behind<'a>(last: Option<&'a Line>, line: &'a Line) -> Option<&'a Line>
-    ensures { (past : List SomeLine) → option_map (λ l. l.now) last.entry ≡ last_said past → option_map (λ l. l.now) result ≡ last_said (line.now ∷ past) }
+    ensures { (past : List SomeLine) → option_map (λ l. l.now) last.entry ≡ last_said past
+        → option_map (λ l. l.now) result ≡ last_said (line.now ∷ past) }
 {
     if is_skipped(line) { last } else { Some(line) }
 }

@@ -1,4 +1,5 @@
-//! Checks the lines of an assembler text: where each may stand, its labels, and the limits of a class file.
+//! Checks the lines of an assembler text: where each may stand, its labels, and the limits of a
+//! class file.
 #![tactic(auto)]
 
 mod body;

@@ -2,7 +2,8 @@
 ghost use Rattle.std.specs.Prelude.{◌≡◌, ◌∷◌, [], OnOk, flat_map};
 ghost use Rattle.asm_constants.specs.Pools.{with_needed};
 ghost use Rattle.asm_constants.specs.declared.content.Content.TheVariants.{Class, Utf8};
-ghost use Rattle.asm_bodies.specs.Needs.{line_contents, member_contents, method_contents, caught_contents, operand_contents, with_all_needed};
+ghost use Rattle.asm_bodies.specs.Needs.{line_contents, member_contents, method_contents};
+ghost use Rattle.asm_bodies.specs.Needs.{caught_contents, operand_contents, with_all_needed};
 
 use asm_constants::{Content, Pool};
 use asm_lines::{Line, Member, Operand};
@@ -90,7 +91,8 @@ fn add_operand(pool: &mut Pool, alloc: Global, operand: &Operand) -> Result<(), 
 }
 
 fn add_operands(pool: &mut Pool, alloc: Global, operands: &[Operand]) -> Result<(), OutOfMemory>
-    ensures { OnOk result (pool.new ≡ with_all_needed pool.old (flat_map operand_contents operands.now)) }
+    ensures { OnOk result (pool.new
+        ≡ with_all_needed pool.old (flat_map operand_contents operands.now)) }
 {
     for operand in operands {
         add_operand(pool, alloc, operand)?;

@@ -3,7 +3,8 @@ ghost use Rattle.std.specs.Prelude.{◌≡◌};
 ghost use Rattle.std.specs.List.{list_all, list_any};
 ghost use Rattle.std.specs.HashSet.{contains};
 ghost use Rattle.std.specs.Str.{bytes_eq};
-ghost use Rattle.asm_checks.specs.Faults.{is_index_over, has_index_over, target_labels, used_labels};
+ghost use Rattle.asm_checks.specs.Faults.{is_index_over, has_index_over, target_labels};
+ghost use Rattle.asm_checks.specs.Faults.{used_labels};
 
 use asm_constants::Pool;
 use asm_lines::{Line, Operand};
@@ -50,7 +51,8 @@ fn is_among(labels: &HashSet<Text>, operand: &Operand) -> bool
 }
 
 fn are_among(labels: &HashSet<Text>, operands: &[Operand]) -> bool
-    ensures { result ≡ list_all (λ operand. list_all (contains bytes_eq labels.now) (target_labels operand)) operands.now }
+    ensures { result ≡ list_all
+        (λ operand. list_all (contains bytes_eq labels.now) (target_labels operand)) operands.now }
 {
     operands.iter().all(|operand| is_among(labels, operand))
 }

@@ -2,7 +2,8 @@
 ghost use Rattle.std.specs.Prelude.{◌≡◌, List, [], ◌∷◌, IfOk, None};
 ghost use Rattle.asm_bodies.specs.Bodies.{open_body, pc_behind};
 ghost use Rattle.asm_bodies.specs.Lines.{count_of, is_catch};
-ghost use Rattle.asm_checks.specs.Faults.{kind_at, is_in_place, is_lost, is_over, is_twice, own_fault, body_behind, counts_after};
+ghost use Rattle.asm_checks.specs.Faults.{kind_at, is_in_place, is_lost, is_over, is_twice};
+ghost use Rattle.asm_checks.specs.Faults.{own_fault, body_behind, counts_after};
 ghost use Rattle.asm_checks.specs.Following.{Follows, FollowsBody, IsChecked};
 ghost use Rattle.asm_lines.specs.declared.line.Line.{Line as SomeLine};
 ghost use Rattle.asm_bodies.specs.Needs.{pool_of};
@@ -36,7 +37,9 @@ fn body_behind(
     line: &Line,
     after: &[Line],
 ) -> Result<Option<Body>, OutOfMemory>
-    ensures { IfOk result (λ next. (past : List SomeLine) → FollowsBody body (open_body past) (line.now ∷ after.now) → FollowsBody next (open_body (line.now ∷ past)) after.now) }
+    ensures { IfOk result (λ next. (past : List SomeLine)
+        → FollowsBody body (open_body past) (line.now ∷ after.now)
+        → FollowsBody next (open_body (line.now ∷ past)) after.now) }
 {
     if is_method(line) {
         return Ok(Some(Body::open(alloc, after)?));
@@ -78,7 +81,8 @@ impl<'a> Survey<'a> {
 
     // Whether the line uses a label that isn't there.
     fn is_lost(&self, alloc: Global, line: &Line) -> bool
-        ensures { (past after : List SomeLine) → Follows self.now past (line.now ∷ after) → result ≡ is_lost past line.now after }
+        ensures { (past after : List SomeLine) → Follows self.now past (line.now ∷ after)
+            → result ≡ is_lost past line.now after }
     {
         match &self.body {
             Some(body) => !uses_only(&body.whole, line),
@@ -88,7 +92,8 @@ impl<'a> Survey<'a> {
 
     // Whether the line is a label that the open body has.
     fn is_twice(&self, line: &Line) -> bool
-        ensures { (past after : List SomeLine) → Follows self.now past after → result ≡ is_twice past line.now }
+        ensures { (past after : List SomeLine) → Follows self.now past after
+            → result ≡ is_twice past line.now }
     {
         match line {
             Line::Label(name) => match &self.body {
@@ -100,13 +105,15 @@ impl<'a> Survey<'a> {
     }
 
     fn is_in_place(&self, line: &Line) -> bool
-        ensures { (past after : List SomeLine) → Follows self.now past after → result ≡ is_in_place past line.now }
+        ensures { (past after : List SomeLine) → Follows self.now past after
+            → result ≡ is_in_place past line.now }
     {
         is_skipped(line) || may_come_next(self.last, line)
     }
 
     fn pc(&self) -> usize
-        ensures { (past after : List SomeLine) → Follows self.now past after → result ≡ pc_behind 0 (body_behind past) }
+        ensures { (past after : List SomeLine) → Follows self.now past after
+            → result ≡ pc_behind 0 (body_behind past) }
     {
         match &self.body {
             Some(body) => body.pc,
@@ -115,7 +122,8 @@ impl<'a> Survey<'a> {
     }
 
     fn catches(&self) -> usize
-        ensures { (past after : List SomeLine) → Follows self.now past after → result ≡ count_of is_catch (body_behind past) }
+        ensures { (past after : List SomeLine) → Follows self.now past after
+            → result ≡ count_of is_catch (body_behind past) }
     {
         match &self.body {
             Some(body) => body.catches,
@@ -124,7 +132,8 @@ impl<'a> Survey<'a> {
     }
 
     fn counts(&self) -> Counts
-        ensures { (past after : List SomeLine) → Follows self.now past after → result ≡ counts_after past }
+        ensures { (past after : List SomeLine) → Follows self.now past after
+            → result ≡ counts_after past }
     {
         Counts {
             pc: self.pc(),
@@ -137,7 +146,8 @@ impl<'a> Survey<'a> {
 
     // Whether the line goes past a limit.
     fn is_over(&self, pool: &Pool, line: &Line) -> Result<bool, OutOfMemory>
-        ensures { IfOk result (λ over. (past after : List SomeLine) → Follows self.now past after → pool.now ≡ pool_of (line.now ∷ past) → over ≡ is_over past line.now) }
+        ensures { IfOk result (λ over. (past after : List SomeLine) → Follows self.now past after
+            → pool.now ≡ pool_of (line.now ∷ past) → over ≡ is_over past line.now) }
     {
         Ok(!pool.fits() | is_too_much(self.counts(), line)?)
     }
@@ -150,7 +160,9 @@ impl<'a> Survey<'a> {
         line: &Line,
     ) -> Result<Option<AsmKind>, OutOfMemory>
         requires { own_fault line.now ≡ None }
-        ensures { IfOk result (λ kind. (past after : List SomeLine) → Follows self.now past (line.now ∷ after) → pool.now ≡ pool_of (line.now ∷ past) → kind ≡ kind_at past line.now after) }
+        ensures { IfOk result (λ kind. (past after : List SomeLine)
+            → Follows self.now past (line.now ∷ after) → pool.now ≡ pool_of (line.now ∷ past)
+            → kind ≡ kind_at past line.now after) }
     {
         if has_index_over(pool, line) {
             Ok(Some(AsmKind::Operand))
@@ -174,7 +186,9 @@ impl<'a> Survey<'a> {
         pool: &Pool,
         line: &Line,
     ) -> Result<Option<AsmKind>, OutOfMemory>
-        ensures { IfOk result (λ kind. (past after : List SomeLine) → Follows self.now past (line.now ∷ after) → pool.now ≡ pool_of (line.now ∷ past) → kind ≡ kind_at past line.now after) }
+        ensures { IfOk result (λ kind. (past after : List SomeLine)
+            → Follows self.now past (line.now ∷ after) → pool.now ≡ pool_of (line.now ∷ past)
+            → kind ≡ kind_at past line.now after) }
     {
         match own_fault(line) {
             Some(kind) => Ok(Some(kind)),
@@ -189,7 +203,9 @@ impl<'a> Survey<'a> {
         line: &'a Line,
         after: &[Line],
     ) -> Result<Survey<'a>, OutOfMemory>
-        ensures { IfOk result (λ next. (past : List SomeLine) → Follows self.entry past (line.now ∷ after.now) → Follows next (line.now ∷ past) after.now) }
+        ensures { IfOk result (λ next. (past : List SomeLine)
+            → Follows self.entry past (line.now ∷ after.now)
+            → Follows next (line.now ∷ past) after.now) }
     {
         let Survey {
             last,

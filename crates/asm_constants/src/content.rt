@@ -19,8 +19,8 @@ pub enum Reference {
     InterfaceMethod,
 }
 
-/// A constant (JVMS 4.4) with what it says in place of the indices of its parts. A reference has the
-/// names of its class and its member, and the member's descriptor.
+/// A constant (JVMS 4.4) with what it says in place of the indices of its parts. A reference has
+/// the names of its class and its member, and the member's descriptor.
 #[derive(PartialEq, Eq, Hash, Drop)]
 pub enum Content {
     Utf8(Text),

@@ -1,7 +1,9 @@
 //! The constants of a class file, each once.
 ghost use Rattle.std.specs.Prelude.{◌≡◌, suc, sum_by, IfOk, IsTrue, [], OnOk, ◌++◌};
 ghost use Rattle.asm_constants.specs.Entries.{bytes_behind_tag};
-ghost use Rattle.asm_constants.specs.Pools.{constant_bytes, fits, has_content, text_bytes, two_bytes, index_of, places, with_needed, with_new, with_all_new, pool_bytes};
+ghost use Rattle.asm_constants.specs.Pools.{constant_bytes, fits, has_content, text_bytes};
+ghost use Rattle.asm_constants.specs.Pools.{two_bytes, index_of, places, with_needed, with_new};
+ghost use Rattle.asm_constants.specs.Pools.{with_all_new, pool_bytes};
 ghost use Rattle.class_grammar.specs.ModifiedUtf8.{modified_utf8};
 
 use crate::content::{Content, class_content, pair_content, text_content};
@@ -14,7 +16,8 @@ use std::marker::Model;
 
 const MOST: usize = 65_535;
 
-/// The constants of a class file, each once, in order of first need. There may be more than a class file can have.
+/// The constants of a class file, each once, in order of first need. There may be more than a class
+/// file can have.
 #[derive(Drop)]
 pub struct Pool {
     indices: IndexMap<Content, usize>,
@@ -36,7 +39,8 @@ impl Model for Pool {
 }
 
 fn push_text(alloc: Global, bytes: &mut Vec<u8>, units: &[u16]) -> Result<(), OutOfMemory>
-    ensures { OnOk result (bytes.new.items ≡ bytes.old.items ++ text_bytes (modified_utf8 units.now)) }
+    ensures { OnOk result (bytes.new.items
+        ≡ bytes.old.items ++ text_bytes (modified_utf8 units.now)) }
 {
     let text = utf8_write(alloc, units)?;
     bytes.extend_from_slice(&two_bytes(text.len()))?;
@@ -65,7 +69,8 @@ impl Pool {
         }
     }
 
-    /// What stands in front of the constants in a class file: one more than the indices that they take up.
+    /// What stands in front of the constants in a class file: one more than the indices that they
+    /// take up.
     pub fn count(&self) -> usize
         ensures { result ≡ suc (sum_by places self.now) }
     {
@@ -113,7 +118,8 @@ impl Pool {
         Ok(())
     }
 
-    /// Adds a constant, and in front of it those that it names, where they aren't there yet. Where memory runs out, some of them may be there.
+    /// Adds a constant, and in front of it those that it names, where they aren't there yet. Where
+    /// memory runs out, some of them may be there.
     #[tactic(auto, unfolding(crate::specs::Pools::with_needed))]
     pub fn add(&mut self, alloc: Global, content: &Content) -> Result<(), OutOfMemory>
         ensures { OnOk result (self.new ≡ with_needed self.old content.now) }
@@ -122,7 +128,8 @@ impl Pool {
     }
 
     fn push_index(&self, bytes: &mut Vec<u8>, content: &Content) -> Result<(), OutOfMemory>
-        ensures { OnOk result (bytes.new.items ≡ bytes.old.items ++ two_bytes (index_of self.now content.now)) }
+        ensures { OnOk result (bytes.new.items
+            ≡ bytes.old.items ++ two_bytes (index_of self.now content.now)) }
     {
         bytes.extend_from_slice(&two_bytes(self.index(content)))
     }
@@ -133,7 +140,9 @@ impl Pool {
         front: &Content,
         behind: &Content,
     ) -> Result<(), OutOfMemory>
-        ensures { OnOk result (bytes.new.items ≡ bytes.old.items ++ two_bytes (index_of self.now front.now) ++ two_bytes (index_of self.now behind.now)) }
+        ensures { OnOk result (bytes.new.items
+            ≡ bytes.old.items ++ two_bytes (index_of self.now front.now)
+            ++ two_bytes (index_of self.now behind.now)) }
     {
         self.push_index(bytes, front)?;
         self.push_index(bytes, behind)
@@ -146,7 +155,8 @@ impl Pool {
         bytes: &mut Vec<u8>,
         content: &Content,
     ) -> Result<(), OutOfMemory>
-        ensures { OnOk result (bytes.new.items ≡ bytes.old.items ++ bytes_behind_tag self.now content.now) }
+        ensures { OnOk result (bytes.new.items
+            ≡ bytes.old.items ++ bytes_behind_tag self.now content.now) }
     {
         match content {
             Content::Utf8(units) => push_text(alloc, bytes, units.as_slice()),
@@ -173,7 +183,8 @@ impl Pool {
         bytes: &mut Vec<u8>,
         content: &Content,
     ) -> Result<(), OutOfMemory>
-        ensures { OnOk result (bytes.new.items ≡ bytes.old.items ++ constant_bytes self.now content.now) }
+        ensures { OnOk result (bytes.new.items
+            ≡ bytes.old.items ++ constant_bytes self.now content.now) }
     {
         bytes.push(content.tag())?;
         self.push_parts(alloc, bytes, content)

@@ -37,7 +37,8 @@ fn with_operands(
     form: Form,
     words: &[&[u16]],
 ) -> Result<Line, LineError>
-    ensures { Tells (λ line. line) result (with_operands opcode wide (operands_of form (row_at opcode) (texts words.now))) }
+    ensures { Tells (λ line. line) result
+        (with_operands opcode wide (operands_of form (row_at opcode) (texts words.now))) }
 {
     let operands = operands_of(alloc, form, row_of(opcode), words)?;
     Ok(Line::Instruction(Instruction {
@@ -49,7 +50,9 @@ fn with_operands(
 
 /// The instruction of that opcode with the operands that words say.
 pub fn instruction(alloc: Global, opcode: u8, words: &[&[u16]]) -> Result<Line, LineError>
-    ensures { Tells (λ line. line) result (with_operands opcode false (operands_of (form_at opcode) (row_at opcode) (texts words.now))) }
+    ensures { Tells (λ line. line) result
+        (with_operands opcode false
+        (operands_of (form_at opcode) (row_at opcode) (texts words.now))) }
 {
     with_operands(alloc, opcode, false, form_of(opcode), words)
 }

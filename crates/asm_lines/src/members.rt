@@ -3,7 +3,8 @@ ghost use Rattle.std.specs.Prelude.{Some, None, if◌then◌else◌, codes};
 ghost use Rattle.std.specs.Str.{bytes_eq};
 ghost use Rattle.asm_words.specs.Numbers.{flags_of};
 ghost use Rattle.asm_lines.specs.Operands.{is_name};
-ghost use Rattle.asm_lines.specs.Lines.{class_line, implements_line, member_of, field_line, abstract_line, method_line, catch_line};
+ghost use Rattle.asm_lines.specs.Lines.{class_line, implements_line, member_of, field_line};
+ghost use Rattle.asm_lines.specs.Lines.{abstract_line, method_line, catch_line};
 ghost use Rattle.asm_lines.specs.Readings.{Tells, texts};
 
 use crate::error::{LineError, Malformed};
@@ -63,7 +64,8 @@ fn member_of(
     member: &[u16],
     descriptor: &[u16],
 ) -> Result<Member, LineError>
-    ensures { Tells (λ member. member) result (member_of described flags.now member.now descriptor.now) }
+    ensures { Tells (λ member. member) result
+        (member_of described flags.now member.now descriptor.now) }
 {
     if !described {
         return Err(LineError::Bad(Malformed));
@@ -120,7 +122,9 @@ pub fn method_line(alloc: Global, words: &[&[u16]]) -> Result<Line, LineError>
 
 // The class that is caught, none where it is any.
 fn catch_class(alloc: Global, class: &[u16]) -> Result<Option<Text>, LineError>
-    ensures { Tells (λ caught. caught) result (if is_name class.now then Some (if bytes_eq class.now (codes "any") then None else Some class.now) else None) }
+    ensures { Tells (λ caught. caught) result
+        (if is_name class.now
+        then Some (if bytes_eq class.now (codes "any") then None else Some class.now) else None) }
 {
     let caught = name(alloc, class)?;
     if is_text(class, "any") {

@@ -1,7 +1,14 @@
 //! The operands of an instruction.
 ghost use Rattle.std.specs.Prelude.{◌≡◌, ◌∷◌, [], Some, None, option_map, is_some};
 ghost use Rattle.class_grammar.specs.Descriptors.{field_type_of, method_type_of};
-ghost use Rattle.asm_lines.specs.Operands.{signed_byte, signed_short, unsigned_byte, unsigned_short, increment, wide_increment, class_operand, member_operand, field_operand, method_operand, count_operands, interface_operand, byte_constant, short_constant, long_constant, element_type, array_type, dimensions, target, far_target, nothing, index_operand, byte_operand, operands_of};
+ghost use Rattle.asm_lines.specs.Operands.{signed_byte, signed_short, unsigned_byte};
+ghost use Rattle.asm_lines.specs.Operands.{unsigned_short, increment, wide_increment};
+ghost use Rattle.asm_lines.specs.Operands.{class_operand, member_operand, field_operand};
+ghost use Rattle.asm_lines.specs.Operands.{method_operand, count_operands, interface_operand};
+ghost use Rattle.asm_lines.specs.Operands.{byte_constant, short_constant, long_constant};
+ghost use Rattle.asm_lines.specs.Operands.{element_type, array_type, dimensions, target};
+ghost use Rattle.asm_lines.specs.Operands.{far_target, nothing, index_operand, byte_operand};
+ghost use Rattle.asm_lines.specs.Operands.{operands_of};
 ghost use Rattle.asm_lines.specs.declared.line.Operand.TheVariants.{Byte};
 ghost use Rattle.asm_lines.specs.Readings.{Tells, texts};
 
@@ -189,7 +196,8 @@ fn member_operand(
     member: &[u16],
     descriptor: &[u16],
 ) -> Result<Operand, LineError>
-    ensures { Tells (λ operand. operand ∷ []) result (member_operand kind described class.now member.now descriptor.now) }
+    ensures { Tells (λ operand. operand ∷ []) result
+        (member_operand kind described class.now member.now descriptor.now) }
 {
     let class = name(alloc, class)?;
     let member = name(alloc, member)?;
@@ -245,7 +253,8 @@ fn method_operand(alloc: Global, words: &[&[u16]]) -> Operands
 // The count of the arguments' slots with that of the receiver.
 #[tactic(auto, unfolding(crate::specs::Operands::count_operands))]
 fn argument_count(descriptor: &[u16]) -> Result<u8, LineError>
-    ensures { Tells (λ count. Byte count ∷ Byte 0 ∷ []) result (count_operands (method_type_of descriptor.now)) }
+    ensures { Tells (λ count. Byte count ∷ Byte 0 ∷ []) result
+        (count_operands (method_type_of descriptor.now)) }
 {
     match argument_slots(descriptor) {
         Some(slots) => {

@@ -1,6 +1,7 @@
 //! What the lines of a text mean.
 ghost use Rattle.std.specs.Prelude.{◌≡◌, Option, option_map, IfOk};
-ghost use Rattle.asm_lines.specs.Lines.{meanings, meaning, line_of_words, worded_line, body_line, label_of, label_line, end_line, fitting};
+ghost use Rattle.asm_lines.specs.Lines.{meanings, meaning, line_of_words, worded_line, body_line};
+ghost use Rattle.asm_lines.specs.Lines.{label_of, label_line, end_line, fitting};
 ghost use Rattle.asm_lines.specs.Readings.{Tells, texts};
 ghost use Rattle.asm_lines.specs.declared.line.Line.{Line};
 
@@ -66,7 +67,8 @@ fn line_of_words(alloc: Global, words: &[&[u16]]) -> Result<Line, OutOfMemory>
 // A line whose first word is known, where the others fit it.
 #[tactic(auto, unfolding(crate::specs::Lines::fitting))]
 fn fitting(ends: bool, line: Result<Line, LineError>) -> Result<Line, OutOfMemory>
-    ensures { IfOk result (λ l. (said : Option Line) → Tells (λ told. told) line said → l ≡ fitting ends said) }
+    ensures { IfOk result (λ l. (said : Option Line) → Tells (λ told. told) line said
+        → l ≡ fitting ends said) }
 {
     match line {
         Ok(line) => Ok(line),

@@ -1,8 +1,10 @@
 //! The operands of tableswitch and lookupswitch.
-ghost use Rattle.std.specs.Prelude.{◌≡◌, [], ◌∷◌, ◌++◌, ◌+ℤ◌, pos, Some, None, option_map, map, if◌then◌else◌};
+ghost use Rattle.std.specs.Prelude.{◌≡◌, [], ◌∷◌, ◌++◌, ◌+ℤ◌, pos, Some, None, option_map, map};
+ghost use Rattle.std.specs.Prelude.{if◌then◌else◌};
 ghost use Rattle.std.specs.List.{list_all};
 ghost use Rattle.asm_words.specs.Numbers.{within};
-ghost use Rattle.asm_lines.specs.Operands.{table, table_operands, lookup, keys_above, is_above, is_name, least_int, greatest_int};
+ghost use Rattle.asm_lines.specs.Operands.{table, table_operands, lookup, keys_above, is_above};
+ghost use Rattle.asm_lines.specs.Operands.{is_name, least_int, greatest_int};
 ghost use Rattle.asm_lines.specs.Readings.{Tells, texts};
 ghost use Rattle.asm_lines.specs.declared.line.Operand.TheVariants.{FarTarget, Padding};
 
@@ -18,7 +20,9 @@ fn push_targets(
     operands: &mut Vec<Operand>,
     labels: &[&[u16]],
 ) -> Result<(), LineError>
-    ensures { Tells (λ _. operands.new.items) result (if list_all is_name (texts labels.now) then Some (operands.old.items ++ map FarTarget (texts labels.now)) else None) }
+    ensures { Tells (λ _. operands.new.items) result
+        (if list_all is_name (texts labels.now)
+        then Some (operands.old.items ++ map FarTarget (texts labels.now)) else None) }
 {
     for label in labels {
         operands.push(Operand::FarTarget(name(alloc, label)?))?;
@@ -40,7 +44,8 @@ fn greatest_key(low: i32, more: usize) -> Result<i32, LineError>
 
 // The padding, and the default.
 fn switch_front(alloc: Global, default: &[u16]) -> Operands
-    ensures { Tells (λ v. v.items) result (if is_name default.now then Some (Padding ∷ FarTarget default.now ∷ []) else None) }
+    ensures { Tells (λ v. v.items) result
+        (if is_name default.now then Some (Padding ∷ FarTarget default.now ∷ []) else None) }
 {
     let mut operands = Vec::new(alloc);
     operands.push(Operand::Padding)?;
@@ -51,7 +56,8 @@ fn switch_front(alloc: Global, default: &[u16]) -> Operands
 // The padding, the default, and the least and the greatest key.
 #[tactic(auto, unfolding(crate::specs::Operands::table_operands))]
 fn table_front(alloc: Global, default: &[u16], low: i32, high: i32) -> Operands
-    ensures { Tells (λ v. v.items) result (if is_name default.now then Some (table_operands default.now [] low high) else None) }
+    ensures { Tells (λ v. v.items) result
+        (if is_name default.now then Some (table_operands default.now [] low high) else None) }
 {
     let mut operands = switch_front(alloc, default)?;
     operands.push(Operand::Int(low))?;
@@ -79,7 +85,8 @@ pub fn table(alloc: Global, words: &[&[u16]]) -> Operands
 
 // Pushes keys that rise, and their labels.
 fn push_keys(alloc: Global, operands: &mut Vec<Operand>, pairs: &[&[u16]]) -> Result<(), LineError>
-    ensures { Tells (λ _. operands.new.items) result (option_map (λ keys. operands.old.items ++ keys) (keys_above None (texts pairs.now))) }
+    ensures { Tells (λ _. operands.new.items) result
+        (option_map (λ keys. operands.old.items ++ keys) (keys_above None (texts pairs.now))) }
 {
     let mut before = None;
     let mut rest = pairs;

@@ -1,6 +1,7 @@
 //! Numbers and flags, as words say them.
 ghost use Rattle.std.specs.Prelude.{◌≡◌, ◌^◌, ◌-◌, ◌<◌, min, pos, ◌-ℤ◌, option_map, IfSome};
-ghost use Rattle.asm_words.specs.Numbers.{is_digit, natural_of, number_of, within, digit_value, four_digits, flags_of};
+ghost use Rattle.asm_words.specs.Numbers.{is_digit, natural_of, number_of, within, digit_value};
+ghost use Rattle.asm_words.specs.Numbers.{four_digits, flags_of};
 ghost use Rattle.asm_words.specs.Readings.{capped};
 
 const ZERO: u16 = 0x30;
@@ -37,7 +38,8 @@ fn magnitude(digits: &[u16]) -> Option<u64>
 
 /// The number that the digits say behind a minus, or the nearest one of 64 bits and a sign.
 fn negative(digits: &[u16]) -> Option<i128>
-    ensures { result ≡ option_map capped (option_map (λ n. pos 0 -ℤ pos n) (natural_of digits.now)) }
+    ensures { result ≡ option_map capped
+        (option_map (λ n. pos 0 -ℤ pos n) (natural_of digits.now)) }
 {
     Some(-i128::from(magnitude(digits)?))
 }
@@ -106,7 +108,8 @@ pub(crate) fn four_digits(a: u16, b: u16, c: u16, d: u16) -> Option<u16>
     Some(((first * 16 + second) * 16 + third) * 16 + fourth)
 }
 
-/// The flags that the word says, in units of UTF-16: 0x, and four hexadecimal digits of either case.
+/// The flags that the word says, in units of UTF-16: 0x, and four hexadecimal digits of either
+/// case.
 #[tactic(auto, unfolding(crate::specs::Numbers::flags_of))]
 pub fn flags(word: &[u16]) -> Option<u16>
     ensures { result ≡ flags_of word.now }

@@ -97,7 +97,8 @@ fn up_to_quote(alloc: Global, quoted: &[u16]) -> Result<Option<Text>, OutOfMemor
     Ok(Some(Text::from_vec(units)))
 }
 
-/// The text that the word quotes, if it quotes one as it is written in quotes; both in units of UTF-16.
+/// The text that the word quotes, if it quotes one as it is written in quotes; both in units of
+/// UTF-16.
 #[tactic(auto, unfolding(crate::specs::Quotes::unquoted))]
 pub fn unquoted(alloc: Global, word: &[u16]) -> Result<Option<Text>, OutOfMemory>
     ensures { IfOk result (λ text. text ≡ unquoted word.now) }

@@ -1,5 +1,6 @@
 //! The lines of a text, and the words of a line.
-ghost use Rattle.std.specs.Prelude.{◌≡◌, ◌<◌, ◌+◌, ◌==◌, map, position, take, drop, length, List, [], ◌∷◌, IfOk, IfSome, MatchOption};
+ghost use Rattle.std.specs.Prelude.{◌≡◌, ◌<◌, ◌+◌, ◌==◌, map, position, take, drop, length, List};
+ghost use Rattle.std.specs.Prelude.{[], ◌∷◌, IfOk, IfSome, MatchOption};
 ghost use Rattle.std.specs.Str.{bytes_eq};
 ghost use Rattle.asm_words.specs.Words.{lines_of, words_of, position_behind};
 
@@ -60,7 +61,8 @@ fn position_behind(position: Position, unit: u16) -> Option<Position>
 /// Where the space stands that ends the first word of the line, none if the line is one word.
 fn word_end(line: &[u16]) -> Option<usize>
     ensures within { IfSome result (λ end. end < length line.now) }
-    ensures splits { MatchOption result (words_of line.now ≡ line.now ∷ []) (λ end. words_of line.now ≡ take end line.now ∷ words_of (drop (end + 1) line.now)) }
+    ensures splits { MatchOption result (words_of line.now ≡ line.now ∷ [])
+        (λ end. words_of line.now ≡ take end line.now ∷ words_of (drop (end + 1) line.now)) }
 {
     let mut position = Position::Front;
     for (i, unit) in line.iter().enumerate() {

@@ -69,7 +69,8 @@ fn write_audit<K: Sink>(
 pub fn render<K: Sink>(system: &System, history: &History, sink: &mut K) -> Result<(), Failed>
     requires admitted { IsAdmitted system.now history.now }
     requires supported { HasSupportedActs history.now }
-    ensures { Puts (audit_text system.now history.now) (K.state sink.old) (K.state sink.new) result }
+    ensures { Puts (audit_text system.now history.now) (K.state sink.old)
+        (K.state sink.new) result }
 {
     let mut page = Page::new();
     write_audit(system, history, &mut page, sink)?;

@@ -4,7 +4,8 @@ ghost use Rattle.std.specs.List.{AllByRecursion, flat_map};
 ghost use Rattle.jx_base.specs.Basics.{up_to};
 ghost use Rattle.jx_model.specs.Domains.{domains_made, ended_by, reason_for, end_reason};
 ghost use Rattle.audit_model.specs.AuditText.{domain_line};
-ghost use Rattle.audit_text.specs.Rendering.{IsSupportedEntry, made_template, own_reason, standing_text, domain_text, whole_line};
+ghost use Rattle.audit_text.specs.Rendering.{IsSupportedEntry, made_template, own_reason};
+ghost use Rattle.audit_text.specs.Rendering.{standing_text, domain_text, whole_line};
 ghost use Rattle.page_text.specs.Writes.{Writes};
 
 use crate::entries::template_name;
@@ -63,7 +64,8 @@ pub fn end_reason(entries: &[Entry], domain: u64) -> Option<Reason>
 // Writes how a domain stands, each word behind a space.
 #[tactic(auto, unfolding(crate::specs::Rendering::standing_text, page_text::specs::Pieces::piece_text, audit_model::specs::AuditText::standing_words, audit_model::specs::Audit::reason_words))]
 fn write_standing<K: Sink>(why: Option<Reason>, page: &mut Page, sink: &mut K) -> Result<(), Failed>
-    ensures { Writes (standing_text why) (page.old, K.state sink.old) (page.new, K.state sink.new) result }
+    ensures { Writes (standing_text why) (page.old, K.state sink.old)
+        (page.new, K.state sink.new) result }
 {
     let ended = Piece::Plain("ended");
     match why {
@@ -138,7 +140,8 @@ pub fn write_domains<K: Sink>(
     sink: &mut K,
 ) -> Result<(), Failed>
     requires { AllByRecursion IsSupportedEntry entries.now }
-    ensures { Writes (flat_map (domain_line system.now (reverse entries.now)) (up_to (domains_made (reverse entries.now))))
+    ensures { Writes (flat_map (domain_line system.now (reverse entries.now))
+        (up_to (domains_made (reverse entries.now))))
         (page.old, K.state sink.old) (page.new, K.state sink.new) result }
 {
     let mut domains: u64 = 0;

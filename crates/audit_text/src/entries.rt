@@ -3,7 +3,8 @@ ghost use Rattle.std.specs.Prelude.{◌≡◌, ◌<◌, ◌^◌, ◌+◌, length
 ghost use Rattle.audit_model.specs.Audit.{template_text, class_text, refusal_word};
 ghost use Rattle.audit_model.specs.AuditText.{entry_line, entry_lines};
 ghost use Rattle.jx_model.specs.WellMade.{IsSupported};
-ghost use Rattle.audit_text.specs.Rendering.{IsSupportedReply, IsSupportedEntry, actor_text, spaced_act, spaced_reply};
+ghost use Rattle.audit_text.specs.Rendering.{IsSupportedReply, IsSupportedEntry, actor_text};
+ghost use Rattle.audit_text.specs.Rendering.{spaced_act, spaced_reply};
 ghost use Rattle.page_text.specs.Writes.{Writes};
 ghost use Rattle.std.specs.Prelude.{codes};
 ghost use Rattle.std.specs.List.{AllByRecursion};

@@ -1,6 +1,8 @@
 //! The methods of the built-in classes.
 ghost use Rattle.std.specs.Prelude.{◌≡◌, IfOk};
-ghost use Rattle.program_model.specs.BuiltIn.{builder_methods, constructors, memory_methods, object_methods, string_methods, throwable_itself, zero_methods};
+ghost use Rattle.program_model.specs.BuiltIn.{builder_methods, constructors, memory_methods};
+ghost use Rattle.program_model.specs.BuiltIn.{object_methods, string_methods, throwable_itself};
+ghost use Rattle.program_model.specs.BuiltIn.{zero_methods};
 ghost use Rattle.boot_classes.specs.Rows.{declared_method, declared_methods};
 
 use jx_base::{Declared, Listed, OutOfMemory, Selector, text_of};

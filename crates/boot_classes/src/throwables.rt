@@ -1,6 +1,7 @@
 //! The classes of objects that can be thrown.
 ghost use Rattle.std.specs.Prelude.{◌≡◌, IfOk};
-ghost use Rattle.program_model.specs.BuiltIn.{language_throwables, nucleus_exceptions, throwable_below, throwable_itself};
+ghost use Rattle.program_model.specs.BuiltIn.{language_throwables, nucleus_exceptions};
+ghost use Rattle.program_model.specs.BuiltIn.{throwable_below, throwable_itself};
 ghost use Rattle.boot_classes.specs.Rows.{throwable_of, throwables_of};
 
 use crate::methods::{constructors, throwable_methods};

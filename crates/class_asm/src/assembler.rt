@@ -34,7 +34,8 @@ fn far_or(
 ) -> Result<AsmFault, OutOfMemory>
     requires within { before ≤ length lines.now }
     requires few { length lines.now ≤ 2 ^ 31 }
-    ensures { IfOk result (λ fault. fault ≡ far_or (first_far (take before lines.now)) (asm_fault before kind)) }
+    ensures { IfOk result (λ fault. fault
+        ≡ far_or (first_far (take before lines.now)) (asm_fault before kind)) }
 {
     match first_far(alloc, &lines[..before])? {
         Some(far) => Ok(asm_fault(far, AsmKind::Label)),

@@ -2,7 +2,8 @@
 ghost use Rattle.std.specs.Prelude.{◌≡◌, ◌≤◌, ◌-◌, ◌^◌, ℕ, [], ◌∷◌, length, IfOk, IfErr};
 ghost use Rattle.class_reader.specs.Classes.{version, heading, IsFaultOf, IsReadAs, IsRefusedFor};
 ghost use Rattle.jx_base.specs.Answers.{Gives};
-ghost use Rattle.class_grammar.specs.ClassGrammar.{version_part, interface_part, heading_part, class_file_part, IsClassFile, IsClassFault};
+ghost use Rattle.class_grammar.specs.ClassGrammar.{version_part, interface_part, heading_part};
+ghost use Rattle.class_grammar.specs.ClassGrammar.{class_file_part, IsClassFile, IsClassFault};
 ghost use Rattle.class_grammar.specs.Constants.{class_fault};
 ghost use Rattle.class_grammar.specs.Parts.{at_end, repeated};
 ghost use Rattle.jx_base.specs.declared.class_file.ClassFile.{ClassFile};
@@ -19,7 +20,8 @@ use std::alloc::Global;
 /// The minor and the major version, which are behind the magic number.
 #[tactic(auto, unfolding(class_grammar::specs::ClassGrammar::version_part))]
 fn version_at(size: u32, bytes: &[u8]) -> Result<(u16, u16, &[u8]), ReadFault>
-    ensures read { Gives (λ x. (version x.0 x.1, x.2.now)) result ((version_part size).reads bytes.now) }
+    ensures read { Gives (λ x. (version x.0 x.1, x.2.now)) result
+        ((version_part size).reads bytes.now) }
     ensures shorter { IfOk result (λ x. length x.2.now ≤ length bytes.now) }
 {
     let (magic, rest) = u32_at(cut_off(size), bytes)?;
@@ -52,7 +54,8 @@ fn interfaces_at<'b>(
     bytes: &'b [u8],
 ) -> Result<(Listed<u16>, &'b [u8]), ReadFault>
     requires { length bytes.now ≤ size }
-    ensures read { Gives (λ x. (x.0, x.1.now)) result ((repeated count (interface_part size constants.now)).reads bytes.now) }
+    ensures read { Gives (λ x. (x.0, x.1.now)) result
+        ((repeated count (interface_part size constants.now)).reads bytes.now) }
     ensures shorter { IfOk result (λ x. length x.1.now ≤ length bytes.now) }
 {
     let mut interfaces = Vec::new(alloc);
@@ -73,7 +76,8 @@ fn heading_at<'b>(
     bytes: &'b [u8],
 ) -> Result<(Heading, &'b [u8]), ReadFault>
     requires { length bytes.now ≤ size }
-    ensures read { Gives (λ x. (heading x.0, x.1.now)) result ((heading_part size constants.now).reads bytes.now) }
+    ensures read { Gives (λ x. (heading x.0, x.1.now)) result
+        ((heading_part size constants.now).reads bytes.now) }
     ensures shorter { IfOk result (λ x. length x.1.now ≤ length bytes.now) }
 {
     let (flags, rest) = u16_at(cut_off(size), bytes)?;
@@ -94,7 +98,8 @@ fn heading_at<'b>(
 #[tactic(auto, using(crate::proofs::Ends::ends))]
 fn ends_at(size: u32, bytes: &[u8]) -> Result<(), ReadFault>
     requires { length bytes.now ≤ size }
-    ensures { Gives (λ _. (tt, [])) result ((at_end (class_fault (size - length bytes.now) ClassKind.Trailing)).reads bytes.now) }
+    ensures { Gives (λ _. (tt, [])) result
+        ((at_end (class_fault (size - length bytes.now) ClassKind.Trailing)).reads bytes.now) }
 {
     if bytes.is_empty() {
         Ok(())
@@ -138,14 +143,15 @@ fn class_at(alloc: Global, size: u32, bytes: &[u8]) -> Result<ClassFile, ReadFau
     })
 }
 
-/// The class file that the bytes are, or their first fault (JVMS 4.1). A file of a version from 45 to
-/// 52 is read whole, where our profile has all of it.
+/// The class file that the bytes are, or their first fault (JVMS 4.1). A file of a version from 45
+/// to 52 is read whole, where our profile has all of it.
 pub fn read_class(alloc: Global, bytes: &[u8]) -> Result<ClassFile, ReadFault>
     requires { length bytes.now ≤ 2 ^ 31 }
     ensures found { IfOk result (IsClassFile bytes.now) }
     ensures fault { IfErr result (IsFaultOf bytes.now) }
     ensures only { (file : ClassFile) → IsClassFile bytes.now file → IsReadAs file result }
-    ensures only_fault { (at : ℕ) (kind : ClassKind) → IsClassFault bytes.now at kind → IsRefusedFor at kind result }
+    ensures only_fault { (at : ℕ) (kind : ClassKind) → IsClassFault bytes.now at kind
+        → IsRefusedFor at kind result }
 {
     class_at(alloc, bytes.len() as u32, bytes)
 }

@@ -26,7 +26,8 @@ fn range_at<'b>(
     bytes: &'b [u8],
 ) -> Result<(Range, &'b [u8]), ReadFault>
     requires { length bytes.now ≤ size }
-    ensures read { Gives (λ x. (x.0 ∷ [], x.1.now)) result ((range_part size cut constants.now).reads bytes.now) }
+    ensures read { Gives (λ x. (x.0 ∷ [], x.1.now)) result
+        ((range_part size cut constants.now).reads bytes.now) }
     ensures shorter { IfOk result (λ x. length x.1.now ≤ length bytes.now) }
 {
     let (start, rest) = u16_at(cut, bytes)?;
@@ -56,7 +57,8 @@ fn ranges_at<'b>(
     bytes: &'b [u8],
 ) -> Result<(Listed<Range>, &'b [u8]), ReadFault>
     requires { length bytes.now ≤ size }
-    ensures read { Gives (λ x. (x.0, x.1.now)) result ((repeated count (range_part size cut constants.now)).reads bytes.now) }
+    ensures read { Gives (λ x. (x.0, x.1.now)) result
+        ((repeated count (range_part size cut constants.now)).reads bytes.now) }
     ensures shorter { IfOk result (λ x. length x.1.now ≤ length bytes.now) }
 {
     let mut ranges = Vec::with_capacity(alloc, count as usize)?;
@@ -78,7 +80,8 @@ fn code_at<'b>(
     bytes: &'b [u8],
 ) -> Result<(Code, &'b [u8]), ReadFault>
     requires { length bytes.now ≤ size }
-    ensures read { Gives (λ x. (x.0, x.1.now)) result ((code_part size cut constants.now).reads bytes.now) }
+    ensures read { Gives (λ x. (x.0, x.1.now)) result
+        ((code_part size cut constants.now).reads bytes.now) }
 {
     let (max_stack, rest) = u16_at(cut, bytes)?;
     let (max_locals, rest) = u16_at(cut, rest)?;
@@ -113,7 +116,8 @@ pub fn code_body_at<'b>(
 ) -> Result<(Code, &'b [u8]), ReadFault>
     requires fits { length bytes.now ≤ size }
     requires room { n ≤ length bytes.now }
-    ensures read { Gives (λ x. (x.0, x.1.now)) result ((code_body size at constants.now n).reads bytes.now) }
+    ensures read { Gives (λ x. (x.0, x.1.now)) result
+        ((code_body size at constants.now n).reads bytes.now) }
     ensures shorter { IfOk result (λ x. length x.1.now ≤ length bytes.now) }
 {
     let end = place(size, bytes) + n;

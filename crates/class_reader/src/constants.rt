@@ -1,7 +1,9 @@
 //! One constant (JVMS 4.4).
 ghost use Rattle.std.specs.Prelude.{◌≡◌, ◌≤◌, ◌<◌, ◌^◌, ◌+◌, length, IfOk};
 ghost use Rattle.jx_base.specs.Answers.{Gives};
-ghost use Rattle.class_grammar.specs.Constants.{tag_of, index_pair, utf8_body, skipped_body, constant_body, constant_part, constant_length, is_double_width, skipped_length};
+ghost use Rattle.class_grammar.specs.Constants.{tag_of, index_pair, utf8_body, skipped_body};
+ghost use Rattle.class_grammar.specs.Constants.{constant_body, constant_part, constant_length};
+ghost use Rattle.class_grammar.specs.Constants.{is_double_width, skipped_length};
 
 use crate::error::{ReadFault, bad, cut_off};
 use class_grammar::{bytes_at, place, u8_at, u16_at, u32_at, u64_at};
@@ -67,7 +69,8 @@ fn utf8_at(alloc: Global, size: u32, at: u32, bytes: &[u8]) -> Result<(Constant,
 
 #[tactic(auto, unfolding(class_grammar::specs::Constants::skipped_body))]
 fn skipped_at(size: u32, number: u8, n: usize, bytes: &[u8]) -> Result<(Constant, &[u8]), ReadFault>
-    ensures read { Gives (λ x. (x.0, x.1.now)) result ((skipped_body size number n).reads bytes.now) }
+    ensures read { Gives (λ x. (x.0, x.1.now)) result
+        ((skipped_body size number n).reads bytes.now) }
     ensures long { IfOk result (λ x. length bytes.now ≡ n + length x.1.now) }
     ensures skipped { IfOk result (λ x. x.0 ≡ Constant.Skipped number) }
 {
@@ -84,7 +87,8 @@ fn body_at(
     tag: ConstantTag,
     bytes: &[u8],
 ) -> Result<(Constant, &[u8]), ReadFault>
-    ensures read { Gives (λ x. (x.0, x.1.now)) result ((constant_body size at tag).reads bytes.now) }
+    ensures read { Gives (λ x. (x.0, x.1.now)) result
+        ((constant_body size at tag).reads bytes.now) }
     ensures long { IfOk result (λ x. 1 + length bytes.now ≡ constant_length x.0 + length x.1.now) }
 {
     match tag {

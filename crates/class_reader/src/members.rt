@@ -1,5 +1,6 @@
 //! Fields and methods (JVMS 4.5, 4.6).
-ghost use Rattle.std.specs.Prelude.{◌≡◌, ◌≤◌, ◌<◌, ◌^◌, ◌&&◌, ◌||◌, [], ◌∷◌, None, not, length, IfOk, codes};
+ghost use Rattle.std.specs.Prelude.{◌≡◌, ◌≤◌, ◌<◌, ◌^◌, ◌&&◌, ◌||◌, [], ◌∷◌, None, not, length};
+ghost use Rattle.std.specs.Prelude.{IfOk, codes};
 ghost use Rattle.std.specs.Str.{bytes_eq};
 ghost use Rattle.class_reader.specs.Attributes.{method_attribute};
 ghost use Rattle.jx_base.specs.Answers.{Gives};
@@ -17,7 +18,8 @@ use std::alloc::Global;
 
 /// Whether the profile has such a method, apart from its types.
 fn is_supported(interface: bool, flags: u16, name: &[u16]) -> bool
-    ensures { result ≡ (not (is_native flags) && not (is_synchronized flags) && (not interface || is_abstract flags || bytes_eq name.now (codes "<clinit>"))) }
+    ensures { result ≡ (not (is_native flags) && not (is_synchronized flags) &&
+        (not interface || is_abstract flags || bytes_eq name.now (codes "<clinit>"))) }
 {
     !is_native(flags)
         && !is_synchronized(flags)
@@ -33,7 +35,8 @@ fn field_at<'b>(
     bytes: &'b [u8],
 ) -> Result<(Member, &'b [u8]), ReadFault>
     requires { length bytes.now ≤ size }
-    ensures read { Gives (λ x. (x.0 ∷ [], x.1.now)) result ((field_part size constants.now).reads bytes.now) }
+    ensures read { Gives (λ x. (x.0 ∷ [], x.1.now)) result
+        ((field_part size constants.now).reads bytes.now) }
     ensures shorter { IfOk result (λ x. length x.1.now ≤ length bytes.now) }
 {
     let at = place(size, bytes);
@@ -68,7 +71,8 @@ fn attribute_at<'b>(
     bytes: &'b [u8],
 ) -> Result<(Option<Code>, &'b [u8]), ReadFault>
     requires { length bytes.now ≤ size }
-    ensures read { Gives (λ x. (x.0, x.1.now)) result ((method_attribute size constants.now may_have code).reads bytes.now) }
+    ensures read { Gives (λ x. (x.0, x.1.now)) result
+        ((method_attribute size constants.now may_have code).reads bytes.now) }
     ensures shorter { IfOk result (λ x. length x.1.now ≤ length bytes.now) }
 {
     let at = place(size, bytes);
@@ -98,7 +102,8 @@ fn attributes_at<'b>(
     bytes: &'b [u8],
 ) -> Result<(Option<Code>, &'b [u8]), ReadFault>
     requires { length bytes.now ≤ size }
-    ensures read { Gives (λ x. (x.0, x.1.now)) result ((method_attributes size constants.now may_have count None).reads bytes.now) }
+    ensures read { Gives (λ x. (x.0, x.1.now)) result
+        ((method_attributes size constants.now may_have count None).reads bytes.now) }
     ensures shorter { IfOk result (λ x. length x.1.now ≤ length bytes.now) }
 {
     let mut code = None;
@@ -121,7 +126,8 @@ fn method_at<'b>(
     bytes: &'b [u8],
 ) -> Result<(Member, &'b [u8]), ReadFault>
     requires { length bytes.now ≤ size }
-    ensures read { Gives (λ x. (x.0 ∷ [], x.1.now)) result ((method_part size constants.now interface).reads bytes.now) }
+    ensures read { Gives (λ x. (x.0 ∷ [], x.1.now)) result
+        ((method_part size constants.now interface).reads bytes.now) }
     ensures shorter { IfOk result (λ x. length x.1.now ≤ length bytes.now) }
 {
     let at = place(size, bytes);
@@ -159,7 +165,8 @@ pub fn fields_at<'b>(
     bytes: &'b [u8],
 ) -> Result<(Listed<Member>, &'b [u8]), ReadFault>
     requires { length bytes.now ≤ size }
-    ensures read { Gives (λ x. (x.0, x.1.now)) result ((repeated count (field_part size constants.now)).reads bytes.now) }
+    ensures read { Gives (λ x. (x.0, x.1.now)) result
+        ((repeated count (field_part size constants.now)).reads bytes.now) }
     ensures shorter { IfOk result (λ x. length x.1.now ≤ length bytes.now) }
 {
     let mut fields = Vec::new(alloc);
@@ -183,7 +190,8 @@ pub fn methods_at<'b>(
     bytes: &'b [u8],
 ) -> Result<(Listed<Member>, &'b [u8]), ReadFault>
     requires { length bytes.now ≤ size }
-    ensures read { Gives (λ x. (x.0, x.1.now)) result ((repeated count (method_part size constants.now interface)).reads bytes.now) }
+    ensures read { Gives (λ x. (x.0, x.1.now)) result
+        ((repeated count (method_part size constants.now interface)).reads bytes.now) }
     ensures shorter { IfOk result (λ x. length x.1.now ≤ length bytes.now) }
 {
     let mut methods = Vec::new(alloc);

@@ -3,7 +3,8 @@ ghost use Rattle.std.specs.Prelude.{◌≡◌, ◌≤◌, [], length, IfOk, code
 ghost use Rattle.std.specs.Str.{bytes_eq};
 ghost use Rattle.jx_base.specs.Answers.{Gives};
 ghost use Rattle.class_grammar.specs.Parts.{repeated};
-ghost use Rattle.class_grammar.specs.Members.{is_code_name, name_part, class_index, skipped_attribute, skipped_attributes};
+ghost use Rattle.class_grammar.specs.Members.{is_code_name, name_part, class_index};
+ghost use Rattle.class_grammar.specs.Members.{skipped_attribute, skipped_attributes};
 
 use crate::error::{ReadFault, bad, cut_off};
 use class_grammar::{bytes_at, names_class, place, text_at, u16_at, u32_at};
@@ -18,7 +19,8 @@ pub fn name_at<'c, 'b>(
     bytes: &'b [u8],
 ) -> Result<(&'c [u16], &'b [u8]), ReadFault>
     requires { length bytes.now ≤ size }
-    ensures read { Gives (λ x. (x.0.now, x.1.now)) result ((name_part size cut constants.now).reads bytes.now) }
+    ensures read { Gives (λ x. (x.0.now, x.1.now)) result
+        ((name_part size cut constants.now).reads bytes.now) }
     ensures shorter { IfOk result (λ x. length x.1.now ≤ length bytes.now) }
 {
     let at = place(size, bytes);
@@ -37,7 +39,8 @@ pub fn class_index_at<'b>(
     bytes: &'b [u8],
 ) -> Result<(u16, &'b [u8]), ReadFault>
     requires { length bytes.now ≤ size }
-    ensures read { Gives (λ x. (x.0, x.1.now)) result ((class_index size constants.now).reads bytes.now) }
+    ensures read { Gives (λ x. (x.0, x.1.now)) result
+        ((class_index size constants.now).reads bytes.now) }
     ensures shorter { IfOk result (λ x. length x.1.now ≤ length bytes.now) }
 {
     let at = place(size, bytes);
@@ -56,7 +59,8 @@ fn skip_attribute<'b>(
     bytes: &'b [u8],
 ) -> Result<&'b [u8], ReadFault>
     requires { length bytes.now ≤ size }
-    ensures read { Gives (λ x. ([], x.now)) result ((skipped_attribute size cut constants.now).reads bytes.now) }
+    ensures read { Gives (λ x. ([], x.now)) result
+        ((skipped_attribute size cut constants.now).reads bytes.now) }
     ensures shorter { IfOk result (λ x. length x.now ≤ length bytes.now) }
 {
     let (_, rest) = name_at(size, cut, constants, bytes)?;
@@ -74,7 +78,8 @@ pub fn skip_attributes<'b>(
     bytes: &'b [u8],
 ) -> Result<&'b [u8], ReadFault>
     requires { length bytes.now ≤ size }
-    ensures read { Gives (λ x. ([], x.now)) result ((skipped_attributes size cut constants.now).reads bytes.now) }
+    ensures read { Gives (λ x. ([], x.now)) result
+        ((skipped_attributes size cut constants.now).reads bytes.now) }
     ensures shorter { IfOk result (λ x. length x.now ≤ length bytes.now) }
 {
     let (count, rest) = u16_at(cut, bytes)?;
@@ -90,7 +95,8 @@ fn skip_so_many<'b>(
     bytes: &'b [u8],
 ) -> Result<&'b [u8], ReadFault>
     requires { length bytes.now ≤ size }
-    ensures read { Gives (λ x. ([], x.now)) result ((repeated count (skipped_attribute size cut constants.now)).reads bytes.now) }
+    ensures read { Gives (λ x. ([], x.now)) result
+        ((repeated count (skipped_attribute size cut constants.now)).reads bytes.now) }
     ensures shorter { IfOk result (λ x. length x.now ≤ length bytes.now) }
 {
     let mut rest = bytes;

@@ -42,9 +42,11 @@ fn constants_at(
     bytes: &[u8],
 ) -> Result<(Vec<Constant>, &[u8]), ReadFault>
     requires { length bytes.now ≤ size }
-    ensures read { Gives (λ x. (drop 1 x.0.items, x.1.now)) result ((constants_part size count).reads bytes.now) }
+    ensures read { Gives (λ x. (drop 1 x.0.items, x.1.now)) result
+        ((constants_part size count).reads bytes.now) }
     ensures first { IfOk result (λ x. x.0.items ≡ Constant.Unusable ∷ drop 1 x.0.items) }
-    ensures long { IfOk result (λ x. length bytes.now ≡ constants_length (drop 1 x.0.items) + length x.1.now) }
+    ensures long { IfOk result
+        (λ x. length bytes.now ≡ constants_length (drop 1 x.0.items) + length x.1.now) }
 {
     let mut constants = vec![in alloc; Constant::Unusable]?;
     let mut rest = bytes;

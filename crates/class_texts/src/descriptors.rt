@@ -1,9 +1,14 @@
 //! Descriptors of fields and methods (JVMS 4.3): whether a text is one, whether a float or a double
 //! stands in it, and the slots that a method's arguments take up.
 ghost use Rattle.std.specs.Prelude.{◌≡◌, [], ℕ, length, option_map, is_some};
-ghost use Rattle.class_texts.specs.Shapes.{joined, number_type, object_tally, of_base, of_type, of_types, tally_of, tally_of_method, after_closing, signature_of, TellsOf};
+ghost use Rattle.class_texts.specs.Shapes.{joined, number_type, object_tally, of_base, of_type};
+ghost use Rattle.class_texts.specs.Shapes.{of_types, tally_of, tally_of_method, after_closing};
+ghost use Rattle.class_texts.specs.Shapes.{signature_of, TellsOf};
 ghost use Rattle.class_texts.specs.Slots.{slots_of, argument_slots, capped};
-ghost use Rattle.class_grammar.specs.Descriptors.{is_number_letter, is_floating, is_floating_result, has_floating, object_at, base_at, type_at, types_at, result_of, field_type_of, method_type_of};
+ghost use Rattle.class_grammar.specs.Descriptors.{is_number_letter, is_floating};
+ghost use Rattle.class_grammar.specs.Descriptors.{is_floating_result, has_floating, object_at};
+ghost use Rattle.class_grammar.specs.Descriptors.{base_at, type_at, types_at, result_of};
+ghost use Rattle.class_grammar.specs.Descriptors.{field_type_of, method_type_of};
 
 const SEMICOLON: u16 = 0x3b;
 
@@ -87,7 +92,8 @@ fn number_tally(dimensions: usize, letter: u16) -> Tally
 
 /// What stands behind a class name, which takes up one unit or more, and its semicolon.
 fn after_object(text: &[u16]) -> Option<&[u16]>
-    ensures { (n : ℕ) → option_map (λ rest. (object_tally, rest.now)) result ≡ of_base n (object_at [] text.now) }
+    ensures { (n : ℕ) → option_map (λ rest. (object_tally, rest.now)) result
+        ≡ of_base n (object_at [] text.now) }
 {
     for (i, unit) in text.iter().enumerate() {
         if *unit == SEMICOLON {
@@ -100,7 +106,8 @@ fn after_object(text: &[u16]) -> Option<&[u16]>
 /// What is told of the base at the front, under so many dimensions, and what stands behind it.
 #[tactic(auto, unfolding(class_grammar::specs::Descriptors::base_at))]
 fn base_at(dimensions: usize, letter: u16, rest: &[u16]) -> Option<(Tally, &[u16])>
-    ensures { option_map (λ x. (x.0, x.1.now)) result ≡ of_base dimensions (base_at letter rest.now) }
+    ensures { option_map (λ x. (x.0, x.1.now)) result
+        ≡ of_base dimensions (base_at letter rest.now) }
 {
     if is_number(letter) {
         Some((number_tally(dimensions, letter), rest))
@@ -138,7 +145,8 @@ fn after_closing(text: &[u16]) -> Option<&[u16]>
 
 /// The same of the types up to the closing parenthesis.
 fn types_at(text: &[u16]) -> Option<(Tally, &[u16])>
-    ensures { option_map (λ x. (x.0, x.1.now)) result ≡ of_types (types_at (length text.now) text.now) }
+    ensures { option_map (λ x. (x.0, x.1.now)) result
+        ≡ of_types (types_at (length text.now) text.now) }
 {
     let mut tally = Tally::NOTHING;
     let mut rest = text;

@@ -1,8 +1,11 @@
 //! Modified UTF-8 (JVMS 4.4.7): each unit of UTF-16 by itself, in the shortest form, but the unit 0
 //! in two bytes.
-ghost use Rattle.std.specs.Prelude.{◌≡◌, ◌<◌, ◌^◌, ◌+◌, ◌++◌, length, if◌then◌else◌, IfOk, IfSome, OnOk, Some, None, option_map};
-ghost use Rattle.class_texts.specs.Texts.{IsTextOf, two, three, unit_of_three_at, unit_of_two_at, unit_at};
-ghost use Rattle.class_grammar.specs.ModifiedUtf8.{IsModifiedUtf8, begins_one, unit_bytes, modified_utf8, text_of_bytes};
+ghost use Rattle.std.specs.Prelude.{◌≡◌, ◌<◌, ◌^◌, ◌+◌, ◌++◌, length, if◌then◌else◌, IfOk, IfSome};
+ghost use Rattle.std.specs.Prelude.{OnOk, Some, None, option_map};
+ghost use Rattle.class_texts.specs.Texts.{IsTextOf, two, three, unit_of_three_at, unit_of_two_at};
+ghost use Rattle.class_texts.specs.Texts.{unit_at};
+ghost use Rattle.class_grammar.specs.ModifiedUtf8.{IsModifiedUtf8, begins_one, unit_bytes};
+ghost use Rattle.class_grammar.specs.ModifiedUtf8.{modified_utf8, text_of_bytes};
 
 use jx_base::{Listed, OutOfMemory, Text};
 use std::alloc::Global;

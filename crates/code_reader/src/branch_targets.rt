@@ -21,7 +21,8 @@ fn target_from(pc: u32, offset: i32) -> i32
 #[tactic(auto, unfolding(class_grammar::specs::CodeGrammar::target_operand))]
 pub fn target_at(pc: u32, bytes: &[u8]) -> Front<'_, i32>
     requires { pc < 2 ^ 31 }
-    ensures read { Gives (λ x. (x.0 ∷ [], x.1.now)) result ((target_operand w16 pc).reads bytes.now) }
+    ensures read { Gives (λ x. (x.0 ∷ [], x.1.now)) result
+        ((target_operand w16 pc).reads bytes.now) }
     ensures shorter { IsNoLonger bytes.now result }
 {
     let (offset, rest) = u16_at(past_end(pc), bytes)?;
@@ -32,7 +33,8 @@ pub fn target_at(pc: u32, bytes: &[u8]) -> Front<'_, i32>
 #[tactic(auto, unfolding(class_grammar::specs::CodeGrammar::target_operand))]
 pub fn far_target_at(pc: u32, bytes: &[u8]) -> Front<'_, i32>
     requires { pc < 2 ^ 31 }
-    ensures read { Gives (λ x. (x.0 ∷ [], x.1.now)) result ((target_operand w32 pc).reads bytes.now) }
+    ensures read { Gives (λ x. (x.0 ∷ [], x.1.now)) result
+        ((target_operand w32 pc).reads bytes.now) }
     ensures shorter { IsNoLonger bytes.now result }
 {
     let (offset, rest) = u32_at(past_end(pc), bytes)?;

@@ -1,6 +1,7 @@
 //! Instructions, one behind the other.
 ghost use Rattle.std.specs.Prelude.{◌<◌, ◌^◌, length, IfOk};
-ghost use Rattle.class_grammar.specs.CodeGrammar.{wide_part, instruction_part, instructions_reading};
+ghost use Rattle.class_grammar.specs.CodeGrammar.{wide_part, instruction_part};
+ghost use Rattle.class_grammar.specs.CodeGrammar.{instructions_reading};
 ghost use Rattle.jx_base.specs.Answers.{Gives};
 
 use crate::error::{CodeError, Front, past_end};
@@ -13,7 +14,8 @@ use std::alloc::Global;
 /// The instructions of the code.
 pub fn instructions(alloc: Global, code: &[u8]) -> Result<Vec<Instr>, CodeError>
     requires { length code.now < 2 ^ 16 }
-    ensures { Gives (λ v. v.items) result (instructions_reading (length code.now) (length code.now) code.now) }
+    ensures { Gives (λ v. v.items) result
+        (instructions_reading (length code.now) (length code.now) code.now) }
 {
     let mut instrs = Vec::new(alloc);
     let mut rest = code;

@@ -2,7 +2,9 @@
 ghost use Rattle.std.specs.Prelude.{◌<◌, ◌≤◌, ◌∷◌, [], ◌^◌, length, IfOk};
 ghost use Rattle.std.specs.Int.{w8, w16};
 ghost use Rattle.class_grammar.specs.Parts.{done};
-ghost use Rattle.class_grammar.specs.CodeGrammar.{interface_operands, array_type_operand, dimensions_operands, increment_operands, operands_part};
+ghost use Rattle.class_grammar.specs.CodeGrammar.{interface_operands, array_type_operand};
+ghost use Rattle.class_grammar.specs.CodeGrammar.{dimensions_operands, increment_operands};
+ghost use Rattle.class_grammar.specs.CodeGrammar.{operands_part};
 ghost use Rattle.code_reader.specs.Readings.{IsNoLonger, ReadsNumbers};
 
 use crate::branch_targets::{far_target_at, target_at};

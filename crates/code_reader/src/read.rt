@@ -12,7 +12,8 @@ use crate::targets::{first_astray, first_bad_range, starts_of};
 use jx_base::{CodeFault, CodeKind, Instr, Range};
 use std::alloc::Global;
 
-/// The instructions of a method's code with its exception table, or its first fault (docs/instructions.md).
+/// The instructions of a method's code with its exception table, or its first fault
+/// (docs/instructions.md).
 pub fn read_code(alloc: Global, code: &[u8], table: &[Range]) -> Result<Vec<Instr>, CodeError>
     requires { length code.now < 2 ^ 16 }
     ensures found { IfOk result (λ instrs. IsCode code.now table.now instrs.items) }

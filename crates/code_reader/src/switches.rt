@@ -1,8 +1,10 @@
 //! The operands of tableswitch and lookupswitch.
-ghost use Rattle.std.specs.Prelude.{◌≡◌, ◌<◌, ◌≤◌, ◌≤ℤ◌, ◌-ℤ◌, ◌+◌, ◌∷◌, [], ◌^◌, length, IfOk, unsigned_abs, int_lt};
+ghost use Rattle.std.specs.Prelude.{◌≡◌, ◌<◌, ◌≤◌, ◌≤ℤ◌, ◌-ℤ◌, ◌+◌, ◌∷◌, [], ◌^◌, length, IfOk};
+ghost use Rattle.std.specs.Prelude.{unsigned_abs, int_lt};
 ghost use Rattle.std.specs.Int.{w32};
 ghost use Rattle.class_grammar.specs.Parts.{repeated};
-ghost use Rattle.class_grammar.specs.CodeGrammar.{target_operand, key_operands, keys_rise, table_operands, lookup_operands, padding_length};
+ghost use Rattle.class_grammar.specs.CodeGrammar.{target_operand, key_operands, keys_rise};
+ghost use Rattle.class_grammar.specs.CodeGrammar.{table_operands, lookup_operands, padding_length};
 ghost use Rattle.code_reader.specs.Readings.{AddsNumbers, IsNoLonger, ReadsNumbers};
 ghost use Rattle.jx_base.specs.Answers.{Gives};
 
@@ -52,7 +54,8 @@ fn span(low: i32, high: i32) -> u64
 // The operands, and so many targets behind them.
 fn with_targets(mut operands: Vec<i32>, count: u64, pc: u32, bytes: &[u8]) -> Front<'_, Vec<i32>>
     requires { pc < 2 ^ 31 }
-    ensures read { AddsNumbers operands.items (repeated count (target_operand w32 pc)) bytes.now result }
+    ensures read { AddsNumbers operands.items
+        (repeated count (target_operand w32 pc)) bytes.now result }
     ensures shorter { IsNoLonger bytes.now result }
 {
     let mut rest = bytes;
@@ -105,7 +108,8 @@ fn with_keys(mut operands: Vec<i32>, count: u32, pc: u32, bytes: &[u8]) -> Front
 #[tactic(auto, unfolding(class_grammar::specs::CodeGrammar::key_operands, class_grammar::specs::CodeGrammar::signed_operand))]
 fn key_at(pc: u32, bytes: &[u8]) -> Front<'_, (i32, i32)>
     requires { pc < 2 ^ 31 }
-    ensures read { Gives (λ x. (x.0.0 ∷ x.0.1 ∷ [], x.1.now)) result ((key_operands pc).reads bytes.now) }
+    ensures read { Gives (λ x. (x.0.0 ∷ x.0.1 ∷ [], x.1.now)) result
+        ((key_operands pc).reads bytes.now) }
     ensures shorter { IsNoLonger bytes.now result }
 {
     let (key, rest) = u32_at(past_end(pc), bytes)?;

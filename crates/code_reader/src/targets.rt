@@ -1,5 +1,6 @@
 //! Where instructions start, and what has to lead there.
-ghost use Rattle.std.specs.Prelude.{◌≡◌, ◌<◌, pos, All, IfOk, find, not, option_map, slice_index_or};
+ghost use Rattle.std.specs.Prelude.{◌≡◌, ◌<◌, pos, All, IfOk, find, not, option_map};
+ghost use Rattle.std.specs.Prelude.{slice_index_or};
 ghost use Rattle.std.specs.List.{list_all};
 ghost use Rattle.class_grammar.specs.CodeGrammar.{key_targets};
 ghost use Rattle.code_reader.specs.CodeReading.{Marks, is_marked, leads_astray, is_good_range};
@@ -84,7 +85,8 @@ fn leads_to_starts(starts: &[bool], instr: &Instr) -> bool
 
 /// The place of the first instruction that may branch to where none starts.
 pub fn first_astray(starts: &[bool], instrs: &[Instr]) -> Option<u32>
-    ensures { result ≡ option_map (λ i. i.pc) (find (leads_astray (is_marked starts.now)) instrs.now) }
+    ensures { result ≡ option_map (λ i. i.pc)
+        (find (leads_astray (is_marked starts.now)) instrs.now) }
 {
     for instr in instrs {
         if !leads_to_starts(starts, instr) {
@@ -106,7 +108,8 @@ fn is_good(size: usize, starts: &[bool], range: Range) -> bool
 
 /// The start of the first range of an exception table that isn't one of code of that size.
 pub fn first_bad_range(size: usize, starts: &[bool], table: &[Range]) -> Option<u32>
-    ensures { result ≡ option_map (λ r. r.start) (find (λ r. not (is_good_range size (is_marked starts.now) r)) table.now) }
+    ensures { result ≡ option_map (λ r. r.start)
+        (find (λ r. not (is_good_range size (is_marked starts.now) r)) table.now) }
 {
     for range in table {
         if !is_good(size, starts, *range) {

@@ -1,5 +1,5 @@
-//! The one class that is run by now: its bytes, its system and its run. All of this goes, whole, once
-//! systems of any classes are linked and run.
+//! The one class that is run by now: its bytes, its system and its run. All of this goes, whole,
+//! once systems of any classes are linked and run.
 #![tactic(auto)]
 
 mod by_now;

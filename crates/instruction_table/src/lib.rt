@@ -1,4 +1,5 @@
-//! The table of opcodes: of each one its mnemonic, how its operands lie behind it, and what it does (JVMS 6).
+//! The table of opcodes: of each one its mnemonic, how its operands lie behind it, and what it does
+//! (JVMS 6).
 #![tactic(auto)]
 
 mod forms;

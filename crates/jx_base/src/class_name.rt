@@ -1,7 +1,8 @@
 //! Names of classes.
 ghost use Rattle.std.specs.Prelude.{◌≡◌};
 ghost use Rattle.std.specs.List.{list_all};
-ghost use Rattle.jx_base.specs.ClassNames.{is_name_byte, has_filled_parts, is_reserved, is_class_name};
+ghost use Rattle.jx_base.specs.ClassNames.{is_name_byte, has_filled_parts, is_reserved};
+ghost use Rattle.jx_base.specs.ClassNames.{is_class_name};
 
 #[tactic(auto, unfolding(crate::specs::ClassNames::is_name_byte))]
 fn is_name_byte(byte: u8) -> bool

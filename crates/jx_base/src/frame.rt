@@ -1,5 +1,6 @@
 //! The frame of a running method (JVMS 2.6).
-ghost use Rattle.std.specs.Prelude.{◌≡◌, ◌<◌, ◌∷◌, [], None, IfOk, length, drop, replicate, slice_get, slice_set};
+ghost use Rattle.std.specs.Prelude.{◌≡◌, ◌<◌, ◌∷◌, [], None, IfOk, length, drop, replicate};
+ghost use Rattle.std.specs.Prelude.{slice_get, slice_set};
 ghost use Rattle.std.specs.Option.{option_flatten};
 
 use crate::OutOfMemory;
@@ -68,7 +69,8 @@ impl Model for OperandStack {
 
     ghost view = { λ stack. record { values = reverse stack.items.items; room = stack.room } };
 
-    ghost invariant = { λ stack. (length stack.items.items ≤ stack.room) × (stack.room ≤ vec_capacity stack.items) };
+    ghost invariant = { λ stack. (length stack.items.items ≤ stack.room)
+        × (stack.room ≤ vec_capacity stack.items) };
 }
 
 impl OperandStack {

@@ -20,7 +20,8 @@ pub enum Fetch {
 
 /// A place where files lie under names.
 pub trait Shelf {
-    /// The files, where the shelf tells them, and how often it has failed. No fetch changes the files.
+    /// The files, where the shelf tells them, and how often it has failed. No fetch changes the
+    /// files.
     ghost state: { Self → ShelfState };
 
     /// The file of the name, of at most 16 MiB.
@@ -116,7 +117,8 @@ impl Model for MemoryShelf {
 
 impl MemoryShelf {
     pub fn new(files: Vec<(String, Vec<u8>)>, failing: Vec<u32>) -> MemoryShelf
-        ensures { result ≡ record { files = file_entries files.items; failing = failing.items; calls = 0; faults = 0 } }
+        ensures { result ≡ record
+            { files = file_entries files.items; failing = failing.items; calls = 0; faults = 0 } }
     {
         MemoryShelf {
             files,
@@ -134,7 +136,8 @@ impl Shelf for MemoryShelf {
         ensures same { Some (file_of self.new.files) ≡ Some (file_of self.old.files) }
         ensures answer { IsAnswer (Some (file_of self.old.files)) name.now result }
         ensures later { self.old.faults ≤ self.new.faults }
-        ensures cause { result ≡ Fetch.Failed → HasShelfFailed (shown_by_shelf self.old) (shown_by_shelf self.new) }
+        ensures cause { result ≡ Fetch.Failed
+            → HasShelfFailed (shown_by_shelf self.old) (shown_by_shelf self.new) }
         ensures fails { result ≡ Fetch.Failed ↔ IsTrue (fetch_fails self.old) }
         ensures after { self.new ≡ after_fetch self.old }
     {

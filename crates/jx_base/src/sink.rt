@@ -48,14 +48,21 @@ impl Model for MemorySink {
       faults = sink.faults;
     } };
 
-    ghost invariant = { λ sink. (length sink.taken.items ≤ sink.room) × (sink.room ≤ vec_capacity sink.taken) };
+    ghost invariant = { λ sink. (length sink.taken.items ≤ sink.room)
+        × (sink.room ≤ vec_capacity sink.taken) };
 }
 
 impl MemorySink {
     /// Reserves room for so many bytes. The puts take no memory.
     pub fn open(alloc: Global, room: u32, failing: Vec<u32>) -> Result<MemorySink, OutOfMemory>
         ensures { IfOk result (λ sink.
-            sink ≡ record { taken = []; room = room; failing = failing.items; calls = 0; faults = 0 }) }
+            sink ≡ record {
+              taken = [];
+              room = room;
+              failing = failing.items;
+              calls = 0;
+              faults = 0;
+            }) }
     {
         let room = room as usize;
         Ok(MemorySink {

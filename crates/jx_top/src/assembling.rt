@@ -30,7 +30,8 @@ fn assemble_text(alloc: Global, text: &[u8]) -> Result<Vec<u8>, Status>
 // The class file that the text of the file says.
 fn assemble_file<L: Shelf>(alloc: Global, file: &str, shelf: &mut L) -> Result<Vec<u8>, Status>
     ensures bytes { FindsText (L.state shelf.old).told file.now result }
-    ensures cause { IsErrOf result Status.ShelfFault → HasShelfFailed (L.state shelf.old) (L.state shelf.new) }
+    ensures cause { IsErrOf result Status.ShelfFault
+        → HasShelfFailed (L.state shelf.old) (L.state shelf.new) }
 {
     let text = fetch_bytes(alloc, file, shelf)?;
     assemble_text(alloc, &text)
@@ -39,7 +40,8 @@ fn assemble_file<L: Shelf>(alloc: Global, file: &str, shelf: &mut L) -> Result<V
 // Puts the class file.
 fn put_class_file<K: Sink>(bytes: &[u8], sink: &mut K) -> Status
     ensures puts { PutsText bytes.now (K.state sink.old) (K.state sink.new) (outcome_of result) }
-    ensures cause { result ≡ Status.SinkFault → HasSinkFailed (K.state sink.old) (K.state sink.new) }
+    ensures cause { result ≡ Status.SinkFault
+        → HasSinkFailed (K.state sink.old) (K.state sink.new) }
 {
     match put_bytes(bytes, sink) {
         Ok(()) => Status::Done,
@@ -57,7 +59,8 @@ pub fn assemble_class<L: Shelf, K: Sink>(
     ensures puts { PutsFor (Asm file.now) (L.state shelf.old).told
         (K.state sink.old) (K.state sink.new) (outcome_of result) }
     ensures cause { HasCauseFor (Asm file.now) (L.state shelf.old).told (outcome_of result) }
-    ensures shelf { result ≡ Status.ShelfFault → HasShelfFailed (L.state shelf.old) (L.state shelf.new) }
+    ensures shelf { result ≡ Status.ShelfFault
+        → HasShelfFailed (L.state shelf.old) (L.state shelf.new) }
     ensures sink { result ≡ Status.SinkFault → HasSinkFailed (K.state sink.old) (K.state sink.new) }
 {
     match assemble_file(alloc, file, shelf) {

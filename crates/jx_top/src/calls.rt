@@ -22,8 +22,10 @@ fn serve<L: Shelf, K: Sink>(alloc: Global, request: &Request, shelf: &mut L, sin
     requires { IsSerial (command_of request.now) }
     ensures puts { PutsFor (command_of request.now) (L.state shelf.old).told
         (K.state sink.old) (K.state sink.new) (outcome_of result) }
-    ensures cause { HasCauseFor (command_of request.now) (L.state shelf.old).told (outcome_of result) }
-    ensures shelf { result ≡ Status.ShelfFault → HasShelfFailed (L.state shelf.old) (L.state shelf.new) }
+    ensures cause { HasCauseFor (command_of request.now) (L.state shelf.old).told
+        (outcome_of result) }
+    ensures shelf { result ≡ Status.ShelfFault
+        → HasShelfFailed (L.state shelf.old) (L.state shelf.new) }
     ensures sink { result ≡ Status.SinkFault → HasSinkFailed (K.state sink.old) (K.state sink.new) }
 {
     match request {
@@ -46,11 +48,13 @@ pub fn jx_serial<L: Shelf, K: Sink>(
     requires { IsSerial (command_of request.now) }
     ensures puts { PutsFor (command_of request.now) (L.state shelf.old).told
         (K.state sink.old) (K.state sink.new) (outcome_of result) }
-    ensures cause { HasCauseFor (command_of request.now) (L.state shelf.old).told (outcome_of result) }
+    ensures cause { HasCauseFor (command_of request.now) (L.state shelf.old).told
+        (outcome_of result) }
     ensures decided { (HasShelfFailed (L.state shelf.old) (L.state shelf.new) → ⊥)
         → IsDecidedFor (command_of request.now) (L.state shelf.old).told (outcome_of result) }
     ensures request { result ≢ Status.Usage }
-    ensures shelf { result ≡ Status.ShelfFault → HasShelfFailed (L.state shelf.old) (L.state shelf.new) }
+    ensures shelf { result ≡ Status.ShelfFault
+        → HasShelfFailed (L.state shelf.old) (L.state shelf.new) }
     ensures sink { result ≡ Status.SinkFault → HasSinkFailed (K.state sink.old) (K.state sink.new) }
 {
     serve(alloc, request, shelf, sink)
@@ -81,7 +85,8 @@ pub fn jx_main<R: Threads + Wait + Sync, L: Shelf, K: Sink, G: Gate + Sync>(
     ensures cause { (c : Command) → AsksFor (texts words.now) c
         → HasCauseFor c (L.state shelf.old).told (outcome_of result) }
     ensures usage { (result ≡ Status.Usage) ↔ AsksForNothing (texts words.now) }
-    ensures shelf { result ≡ Status.ShelfFault → HasShelfFailed (L.state shelf.old) (L.state shelf.new) }
+    ensures shelf { result ≡ Status.ShelfFault
+        → HasShelfFailed (L.state shelf.old) (L.state shelf.new) }
     ensures sink { result ≡ Status.SinkFault → HasSinkFailed (K.state sink.old) (K.state sink.new) }
 {
     match read_words(alloc, words) {

@@ -1,5 +1,6 @@
 //! The words of the command line.
-ghost use Rattle.std.specs.Prelude.{◌≡◌, ◌≢◌, ◌++◌, ◌↔◌, ℕ, List, Some, None, IfOk, IsTrue, IsErrOf, MatchOption, MatchResult, string_bytes, codes};
+ghost use Rattle.std.specs.Prelude.{◌≡◌, ◌≢◌, ◌++◌, ◌↔◌, ℕ, List, Some, None, IfOk, IsTrue};
+ghost use Rattle.std.specs.Prelude.{IsErrOf, MatchOption, MatchResult, string_bytes, codes};
 ghost use Rattle.jx_top.specs.Commands.{IsFileOf, IsClassFileName, AsksFor, AsksForRun};
 ghost use Rattle.jx_top.specs.Commands.{AsksForNoRun, AsksForAsm, AsksForNoAsm, AsksForNothing};
 ghost use Rattle.jx_top.specs.Commands.{command_of, texts, is_dashes, is_option, plain_word};
@@ -18,7 +19,8 @@ pub enum WordsFault {
 
 /// The class whose file this is.
 pub fn class_of(file: &str) -> Option<&str>
-    ensures { MatchOption result (IsClassFileName file.now → ⊥) (λ name. IsFileOf file.now name.now) }
+    ensures { MatchOption result (IsClassFileName file.now → ⊥)
+        (λ name. IsFileOf file.now name.now) }
 {
     if file.len() > 255 {
         return None;
@@ -45,7 +47,8 @@ fn is_asm(verb: &String) -> bool
 
 // The file whose run the words ask for.
 fn file_to_run(words: &[String]) -> Option<&str>
-    ensures { MatchOption result (AsksForNoRun (texts words.now)) (λ file. AsksForRun (texts words.now) file.now) }
+    ensures { MatchOption result (AsksForNoRun (texts words.now))
+        (λ file. AsksForRun (texts words.now) file.now) }
 {
     match words {
         [verb, file] => {
@@ -71,13 +74,15 @@ fn is_option(word: &str) -> bool
 }
 
 fn plain_word(word: &str) -> Option<&str>
-    ensures { MatchOption result (plain_word word.now ≡ None) (λ plain. plain_word word.now ≡ Some plain.now) }
+    ensures { MatchOption result (plain_word word.now ≡ None)
+        (λ plain. plain_word word.now ≡ Some plain.now) }
 {
     if is_option(word) { None } else { Some(word) }
 }
 
 fn beside_dashes<'a>(first: &'a str, second: &'a str) -> Option<&'a str>
-    ensures { MatchOption result (beside_dashes first.now second.now ≡ None) (λ word. beside_dashes first.now second.now ≡ Some word.now) }
+    ensures { MatchOption result (beside_dashes first.now second.now ≡ None)
+        (λ word. beside_dashes first.now second.now ≡ Some word.now) }
 {
     if is_dashes(first) {
         Some(second)
@@ -89,7 +94,8 @@ fn beside_dashes<'a>(first: &'a str, second: &'a str) -> Option<&'a str>
 }
 
 fn place_word(words: &[String]) -> Option<&str>
-    ensures { MatchOption result (place_word (texts words.now) ≡ None) (λ word. place_word (texts words.now) ≡ Some word.now) }
+    ensures { MatchOption result (place_word (texts words.now) ≡ None)
+        (λ word. place_word (texts words.now) ≡ Some word.now) }
 {
     match words {
         [word] => plain_word(word.as_str()),
@@ -100,7 +106,8 @@ fn place_word(words: &[String]) -> Option<&str>
 
 // The file whose text the words want assembled.
 fn file_to_assemble(words: &[String]) -> Option<&str>
-    ensures { MatchOption result (AsksForNoAsm (texts words.now)) (λ file. AsksForAsm (texts words.now) file.now) }
+    ensures { MatchOption result (AsksForNoAsm (texts words.now))
+        (λ file. AsksForAsm (texts words.now) file.now) }
 {
     let [verb, rest @ ..] = words else {
         return None;
@@ -116,7 +123,8 @@ fn file_to_assemble(words: &[String]) -> Option<&str>
 }
 
 fn copy_of(alloc: Global, file: &str) -> Result<String, WordsFault>
-    ensures { MatchResult result (λ copy. string_bytes copy ≡ file.now) (λ fault. fault ≡ WordsFault.OutOfMemory) }
+    ensures { MatchResult result (λ copy. string_bytes copy ≡ file.now)
+        (λ fault. fault ≡ WordsFault.OutOfMemory) }
 {
     String::from_str(alloc, file).map_err(|_| WordsFault::OutOfMemory)
 }

@@ -9,8 +9,8 @@ pub enum DefectKind {
     Code(CodeKind),
 }
 
-/// The first thing that is wrong with a class, at an offset in bytes of its file. Of code it is the place
-/// of the instruction, or of the start of a range.
+/// The first thing that is wrong with a class, at an offset in bytes of its file. Of code it is the
+/// place of the instruction, or of the start of a range.
 #[derive(Clone, Copy)]
 pub struct Defect {
     pub at: u64,

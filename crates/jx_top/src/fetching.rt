@@ -23,7 +23,8 @@ pub fn fetch_bytes<L: Shelf>(alloc: Global, file: &str, shelf: &mut L) -> Result
         → FetchesBytes files file.now result }
     ensures short { IfOk result (λ bytes. length bytes.items ≤ longest_file) }
     ensures ends { IfErr result (λ status. CanFailFetch (outcome_of status)) }
-    ensures cause { IsErrOf result Status.ShelfFault → HasShelfFailed (L.state shelf.old) (L.state shelf.new) }
+    ensures cause { IsErrOf result Status.ShelfFault
+        → HasShelfFailed (L.state shelf.old) (L.state shelf.new) }
 {
     match shelf.fetch(alloc, file) {
         Fetch::Got(bytes) => Ok(bytes),

@@ -44,7 +44,8 @@ fn find_class<L: Shelf>(
 ) -> Result<ClassFile, Status>
     requires { IsFileOf file.now name.now }
     ensures class { FindsClass (L.state shelf.old).told file.now result }
-    ensures cause { IsErrOf result Status.ShelfFault → HasShelfFailed (L.state shelf.old) (L.state shelf.new) }
+    ensures cause { IsErrOf result Status.ShelfFault
+        → HasShelfFailed (L.state shelf.old) (L.state shelf.new) }
 {
     let bytes = fetch_bytes(alloc, file, shelf)?;
     known_class(alloc, file, name, &bytes)
@@ -54,7 +55,8 @@ fn find_class<L: Shelf>(
 fn print_class<K: Sink>(alloc: Global, class: &ClassFile, sink: &mut K) -> Status
     requires { class.now ≡ first_class }
     ensures prints { PutsFirstAudit (K.state sink.old) (K.state sink.new) (outcome_of result) }
-    ensures cause { result ≡ Status.SinkFault → HasSinkFailed (K.state sink.old) (K.state sink.new) }
+    ensures cause { result ≡ Status.SinkFault
+        → HasSinkFailed (K.state sink.old) (K.state sink.new) }
 {
     match first_run(alloc, class) {
         Ok((system, history)) => match render(&system, &history, sink) {
@@ -77,7 +79,8 @@ pub fn run_class<L: Shelf, K: Sink>(
     ensures puts { PutsFor (Run file.now 1) (L.state shelf.old).told
         (K.state sink.old) (K.state sink.new) (outcome_of result) }
     ensures cause { HasCauseFor (Run file.now 1) (L.state shelf.old).told (outcome_of result) }
-    ensures shelf { result ≡ Status.ShelfFault → HasShelfFailed (L.state shelf.old) (L.state shelf.new) }
+    ensures shelf { result ≡ Status.ShelfFault
+        → HasShelfFailed (L.state shelf.old) (L.state shelf.new) }
     ensures sink { result ≡ Status.SinkFault → HasSinkFailed (K.state sink.old) (K.state sink.new) }
 {
     match find_class(alloc, file, name, shelf) {

@@ -3,8 +3,8 @@
 use crate::defect::Defect;
 use class_asm::AsmFault;
 
-/// How a command ended. `Missing` and `TooLong` carry the name of a file, `BadClass` and `NotYet` that of
-/// a class, `BadAsm` the first faulty line of a text.
+/// How a command ended. `Missing` and `TooLong` carry the name of a file, `BadClass` and `NotYet`
+/// that of a class, `BadAsm` the first faulty line of a text.
 #[derive(Drop)]
 pub enum Status {
     Done,

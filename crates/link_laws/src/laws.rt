@@ -1,4 +1,5 @@
-//! Laws of the systems that class files link to. Each function answers nothing and promises the law.
+//! Laws of the systems that class files link to. Each function answers nothing and promises the
+//! law.
 
 ghost use Rattle.program_model.specs.DistinctNames.{HasDistinctNames};
 ghost use Rattle.link_model.specs.LinkFaults.{IsLinked};

@@ -42,7 +42,8 @@ fn interface_ids(
 ) -> Result<Listed<ClassId>, OutOfMemory>
     requires { length classes.now < 2 ^ 32 }
     ensures { IfOk result (λ ids.
-        ids ≡ filter_map (λ i. class_id classes.now (class_name_in file.now i)) file.now.interfaces) }
+        ids ≡ filter_map (λ i. class_id classes.now (class_name_in file.now i))
+        file.now.interfaces) }
 {
     let mut ids = Vec::new(alloc);
     for index in file.interfaces.as_slice() {

@@ -2,7 +2,8 @@
 ghost use Rattle.std.specs.Prelude.{◌≡◌, ◌<◌, ◌^◌, length, IfOk};
 ghost use Rattle.std.specs.List.{list_any};
 ghost use Rattle.program_model.specs.Instructions.{index_operand};
-ghost use Rattle.linker_classes.specs.Classes.{meaning, meaning_at, meanings, system_of, uses_constant};
+ghost use Rattle.linker_classes.specs.Classes.{meaning, meaning_at, meanings, system_of};
+ghost use Rattle.linker_classes.specs.Classes.{uses_constant};
 
 use crate::names::{class_name_in, copy_of, selector_in, text_in};
 use crate::outline::Outline;
@@ -68,7 +69,8 @@ fn meaning_at(
     index: usize,
 ) -> Result<Resolved, OutOfMemory>
     requires { length outline.now.methods.now < 2 ^ 32 }
-    ensures { IfOk result (λ found. found ≡ meaning_at (system_of outline.now) file.now instrs.now index) }
+    ensures { IfOk result (λ found. found
+        ≡ meaning_at (system_of outline.now) file.now instrs.now index) }
 {
     match file.constants.as_slice().get(index) {
         Some(constant) if is_used(instrs, index) => meaning(alloc, outline, file, constant),

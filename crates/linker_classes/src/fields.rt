@@ -96,7 +96,8 @@ pub fn layout(
     owner: ClassId,
     file: &ClassFile,
 ) -> Result<Listed<Field>, OutOfMemory>
-    ensures { IfOk result (λ fields. fields ≡ inherited_fields classes.now parent ++ own_fields false owner.0 file.now) }
+    ensures { IfOk result (λ fields. fields
+        ≡ inherited_fields classes.now parent ++ own_fields false owner.0 file.now) }
 {
     let mut fields = copy_of_fields(alloc, inherited_fields(classes, parent))?;
     fields.append(&mut own_fields(alloc, owner, file, false)?)?;

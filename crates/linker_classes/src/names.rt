@@ -1,6 +1,7 @@
 //! Names that a class file has by the indexes of its constants.
 ghost use Rattle.std.specs.Prelude.{◌≡◌, IfOk};
-ghost use Rattle.link_model.specs.ClassFiles.{class_name_in, selector_in, super_name, text_in, this_name};
+ghost use Rattle.link_model.specs.ClassFiles.{class_name_in, selector_in, super_name, text_in};
+ghost use Rattle.link_model.specs.ClassFiles.{this_name};
 
 use jx_base::{ClassFile, Constant, Listed, OutOfMemory, Text};
 use std::alloc::Global;
@@ -46,7 +47,8 @@ pub fn super_name(file: &ClassFile) -> &[u16]
 /// The name and the descriptor at the index, empty where there are none.
 #[tactic(auto, unfolding(link_model::specs::ClassFiles::selector_in, link_model::specs::ClassFiles::selector_of_constant, link_model::specs::ClassFiles::constant_in))]
 pub fn selector_in(file: &ClassFile, index: u16) -> (&[u16], &[u16])
-    ensures { record { name = result.0.now; descriptor = result.1.now } ≡ selector_in file.now index }
+    ensures { record { name = result.0.now; descriptor = result.1.now }
+        ≡ selector_in file.now index }
 {
     match file.constants.as_slice().get(usize::from(index)) {
         Some(Constant::NameAndType(name, descriptor)) => {

@@ -3,7 +3,8 @@ ghost use Rattle.std.specs.Prelude.{◌≡◌, ◌<◌, ◌^◌, length, slice_g
 ghost use Rattle.link_model.specs.Linking.{own_method};
 ghost use Rattle.program_model.specs.Lookup.{same_selector};
 ghost use Rattle.jx_base.specs.Basics.{passes};
-ghost use Rattle.linker_classes.specs.Classes.{class_id, class_number, named_method, selector, system_of};
+ghost use Rattle.linker_classes.specs.Classes.{class_id, class_number, named_method, selector};
+ghost use Rattle.linker_classes.specs.Classes.{system_of};
 
 use crate::outline::Outline;
 use jx_base::{Class, ClassId, Selector};
@@ -28,7 +29,8 @@ pub fn class_id(classes: &[Class], name: &[u16]) -> Option<ClassId>
 
 #[tactic(auto, unfolding(program_model::specs::Lookup::same_selector, jx_base::specs::Basics::passes))]
 fn is_selector(selectors: &[Selector], number: usize, name: &[u16], descriptor: &[u16]) -> bool
-    ensures { result ≡ passes (same_selector (selector name.now descriptor.now)) (slice_get selectors.now number) }
+    ensures { result ≡ passes (same_selector (selector name.now descriptor.now))
+        (slice_get selectors.now number) }
 {
     match selectors.get(number) {
         Some(selector) => {
@@ -62,7 +64,8 @@ pub fn named_method(
     name: &[u16],
     descriptor: &[u16],
 ) -> Option<usize>
-    ensures { result ≡ named_method (system_of outline.now) class.now (selector name.now descriptor.now) }
+    ensures { result ≡ named_method (system_of outline.now) class.now
+        (selector name.now descriptor.now) }
 {
     let number = class_number(outline.classes, class)?;
     own_method(outline, number, name, descriptor)

@@ -32,7 +32,8 @@ fn class_sources(alloc: Global, id: ClassId, class: &Class) -> Result<Vec<Source
 
 fn built_in_sources(alloc: Global, classes: &[Class]) -> Result<Vec<Source>, OutOfMemory>
     requires { length classes.now < 2 ^ 32 }
-    ensures { IfOk result (λ sources. map source_of sources.items ≡ built_in_sources_from 0 classes.now) }
+    ensures { IfOk result (λ sources. map source_of sources.items
+        ≡ built_in_sources_from 0 classes.now) }
 {
     let mut sources = Vec::new(alloc);
     for (place, class) in classes.iter().enumerate() {
@@ -63,7 +64,8 @@ fn sources_of_files(
     files: &[ClassFile],
 ) -> Result<Vec<Source>, OutOfMemory>
     requires { first + length files.now < 2 ^ 32 }
-    ensures { IfOk result (λ sources. map source_of sources.items ≡ file_sources_from first files.now) }
+    ensures { IfOk result (λ sources. map source_of sources.items
+        ≡ file_sources_from first files.now) }
 {
     let mut sources = Vec::new(alloc);
     for (place, file) in files.iter().enumerate() {

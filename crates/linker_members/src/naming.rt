@@ -28,7 +28,8 @@ fn is_known(selectors: &[Selector], selector: &Selector) -> bool
 
 /// The selectors of the methods, in the order in which methods first have them.
 pub fn selectors(alloc: Global, sources: &[Source]) -> Result<Vec<Selector>, OutOfMemory>
-    ensures { IfOk result (λ selectors. selectors.items ≡ linked_selectors (map source_of sources.now)) }
+    ensures { IfOk result (λ selectors. selectors.items
+        ≡ linked_selectors (map source_of sources.now)) }
 {
     let mut selectors = Vec::new(alloc);
     for source in sources {

@@ -2,7 +2,8 @@
 
 ghost use Rattle.jx_base.specs.Histories.{own_entries, past_of};
 ghost use Rattle.jx_model.specs.Legal.{IsAdmitted};
-ghost use Rattle.machine_laws.specs.Law.{AskedIsWellMade, NextIsWellMade, StandingHoldsValues, StatesHoldValues};
+ghost use Rattle.machine_laws.specs.Law.{AskedIsWellMade, NextIsWellMade, StandingHoldsValues};
+ghost use Rattle.machine_laws.specs.Law.{StatesHoldValues};
 ghost use Rattle.machine_laws.specs.Sound.{IsSound};
 ghost use Rattle.machine_laws.specs.Standing.{StandingHolds};
 
@@ -13,7 +14,8 @@ pub fn runs_stand(system: &System, history: &History, domain: DomainId, template
     ensures { StandingHolds system.now template (own_entries (past_of history.now) domain.0) }
 {}
 
-/// The state of a domain holds values of its history, after its own entries and on the way to its next act.
+/// The state of a domain holds values of its history, after its own entries and on the way to its
+/// next act.
 pub fn state_holds_values(system: &System, history: &History)
     requires sound { IsSound system.now }
     requires admitted { IsAdmitted system.now history.now }

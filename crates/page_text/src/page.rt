@@ -43,7 +43,8 @@ impl Page {
 
     /// Writes the byte behind the others.
     pub fn write_byte<K: Sink>(&mut self, byte: u8, sink: &mut K) -> Result<(), Failed>
-        ensures { Writes (byte ∷ []) (self.old, K.state sink.old) (self.new, K.state sink.new) result }
+        ensures { Writes (byte ∷ []) (self.old, K.state sink.old)
+            (self.new, K.state sink.new) result }
     {
         if self.bytes.is_full() {
             self.flush(sink)?;
@@ -54,7 +55,8 @@ impl Page {
 
     /// Writes the bytes behind the others.
     pub fn write<K: Sink>(&mut self, bytes: &[u8], sink: &mut K) -> Result<(), Failed>
-        ensures { Writes bytes.now (self.old, K.state sink.old) (self.new, K.state sink.new) result }
+        ensures { Writes bytes.now (self.old, K.state sink.old)
+            (self.new, K.state sink.new) result }
     {
         for byte in bytes {
             self.write_byte(*byte, sink)?;

@@ -32,7 +32,8 @@ fn hex(digit: u16) -> u8
 
 #[tactic(auto, unfolding(jx_base::specs::Texts::unit_text))]
 fn write_unit<K: Sink>(unit: u16, page: &mut Page, sink: &mut K) -> Result<(), Failed>
-    ensures { Writes (unit_text unit) (page.old, K.state sink.old) (page.new, K.state sink.new) result }
+    ensures { Writes (unit_text unit) (page.old, K.state sink.old)
+        (page.new, K.state sink.new) result }
 {
     if unit >= 32 && unit <= 126 && unit != 34 && unit != 92 {
         page.write(&[unit as u8], sink)
@@ -63,7 +64,8 @@ pub fn write_units<K: Sink>(units: &[u16], page: &mut Page, sink: &mut K) -> Res
 }
 
 fn write_quoted<K: Sink>(units: &[u16], page: &mut Page, sink: &mut K) -> Result<(), Failed>
-    ensures { Writes (quoted units.now) (page.old, K.state sink.old) (page.new, K.state sink.new) result }
+    ensures { Writes (quoted units.now) (page.old, K.state sink.old)
+        (page.new, K.state sink.new) result }
 {
     page.write_byte(b'"', sink)?;
     write_units(units, page, sink)?;
@@ -131,7 +133,8 @@ pub fn write_words<K: Sink>(
 
 /// Writes a line of words, with one space between.
 pub fn write_line<K: Sink>(words: &[Piece<'_>], page: &mut Page, sink: &mut K) -> Result<(), Failed>
-    ensures { Writes (line_of words.now) (page.old, K.state sink.old) (page.new, K.state sink.new) result }
+    ensures { Writes (line_of words.now) (page.old, K.state sink.old)
+        (page.new, K.state sink.new) result }
 {
     write_words(words, page, sink)?;
     page.write_byte(b'\n', sink)

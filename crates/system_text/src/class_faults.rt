@@ -6,7 +6,8 @@ ghost use Rattle.toml.specs.Data.{get_member};
 ghost use Rattle.toml.specs.View.{table_view, view};
 ghost use Rattle.system_text.specs.Keys.{is_text, main_fault, required_fault};
 ghost use Rattle.system_text.specs.Description.{classes_in};
-ghost use Rattle.system_text.specs.Scan.{array_of, are_more_classes, class_names_fault, class_items_fault, more_classes_fault, texts_at};
+ghost use Rattle.system_text.specs.Scan.{array_of, are_more_classes, class_names_fault};
+ghost use Rattle.system_text.specs.Scan.{class_items_fault, more_classes_fault, texts_at};
 
 use crate::fault::PlanFault;
 use crate::text_sets::{count_with, first_repeated};
@@ -55,7 +56,8 @@ fn are_more_classes(
     known: &IndexSet<&str>,
     names: &[&str],
 ) -> Result<bool, OutOfMemory>
-    ensures { IfOk result (λ answer. answer ≡ are_more_classes (texts_at known.now.keys) (texts_at names.now)) }
+    ensures { IfOk result (λ answer. answer
+        ≡ are_more_classes (texts_at known.now.keys) (texts_at names.now)) }
 {
     if names.is_empty() || names.len() > 256 || !are_class_names(names) {
         return Ok(false);
@@ -70,7 +72,8 @@ fn class_names_fault(
     known: &IndexSet<&str>,
     names: &[&str],
 ) -> Result<Option<PlanFault>, OutOfMemory>
-    ensures { IfOk result (λ fault. fault ≡ class_names_fault key (texts_at known.now.keys) (texts_at names.now)) }
+    ensures { IfOk result (λ fault. fault
+        ≡ class_names_fault key (texts_at known.now.keys) (texts_at names.now)) }
 {
     if !are_more_classes(alloc, known, names)? {
         return Ok(Some(PlanFault::Range(key)));
@@ -88,7 +91,8 @@ fn class_items_fault(
     known: &IndexSet<&str>,
     values: &[Value],
 ) -> Result<Option<PlanFault>, OutOfMemory>
-    ensures { IfOk result (λ fault. fault ≡ class_items_fault key (texts_at known.now.keys) (map view values.now)) }
+    ensures { IfOk result (λ fault. fault
+        ≡ class_items_fault key (texts_at known.now.keys) (map view values.now)) }
 {
     if !are_texts(values) {
         return Ok(Some(PlanFault::Kind(key)));
@@ -104,7 +108,8 @@ fn classes_fault(
     known: &IndexSet<&str>,
     value: &Value,
 ) -> Result<Option<PlanFault>, OutOfMemory>
-    ensures { IfOk result (λ fault. fault ≡ more_classes_fault key (texts_at known.now.keys) (view value.now)) }
+    ensures { IfOk result (λ fault. fault
+        ≡ more_classes_fault key (texts_at known.now.keys) (view value.now)) }
 {
     match array_of(value) {
         Some(values) => class_items_fault(alloc, key, known, values),
@@ -119,7 +124,9 @@ pub fn required_classes_fault(
     known: &IndexSet<&str>,
     table: &Table,
 ) -> Result<Option<PlanFault>, OutOfMemory>
-    ensures { IfOk result (λ fault. fault ≡ required_fault key (more_classes_fault key (texts_at known.now.keys)) (get_member (codes "classes") (table_view table.now))) }
+    ensures { IfOk result (λ fault. fault
+        ≡ required_fault key (more_classes_fault key (texts_at known.now.keys))
+        (get_member (codes "classes") (table_view table.now))) }
 {
     match value_at(table, "classes") {
         None => Ok(Some(PlanFault::Missing(key))),
@@ -149,7 +156,9 @@ pub fn required_main_fault(
     key: Text,
     table: &Table,
 ) -> Result<Option<PlanFault>, OutOfMemory>
-    ensures { IfOk result (λ fault. fault ≡ required_fault key (main_fault key (classes_in (table_view table.now))) (get_member (codes "main") (table_view table.now))) }
+    ensures { IfOk result (λ fault. fault
+        ≡ required_fault key (main_fault key (classes_in (table_view table.now)))
+        (get_member (codes "main") (table_view table.now))) }
 {
     let classes = classes_in(alloc, table)?;
     match value_at(table, "main") {

@@ -5,7 +5,8 @@ ghost use Rattle.toml.specs.Data.{get_member};
 ghost use Rattle.toml.specs.View.{table_view, view};
 ghost use Rattle.system_text.specs.Keys.{is_table, optional_fault};
 ghost use Rattle.system_text.specs.Description.{domain_array_fault};
-ghost use Rattle.system_text.specs.Scan.{domain_items_fault, naming_fault, next_domain_fault, next_domains_fault, sizing_fault, tables_at, texts_at};
+ghost use Rattle.system_text.specs.Scan.{domain_items_fault, naming_fault, next_domain_fault};
+ghost use Rattle.system_text.specs.Scan.{next_domains_fault, sizing_fault, tables_at, texts_at};
 
 use crate::class_faults::{array_of, required_classes_fault, required_main_fault};
 use crate::fault::PlanFault;
@@ -63,7 +64,8 @@ pub fn optional_domains_fault(
     alloc: Global,
     table: &Table,
 ) -> Result<Option<PlanFault>, OutOfMemory>
-    ensures { IfOk result (λ fault. fault ≡ optional_fault domain_array_fault (get_member (codes "domain") (table_view table.now))) }
+    ensures { IfOk result (λ fault. fault
+        ≡ optional_fault domain_array_fault (get_member (codes "domain") (table_view table.now))) }
 {
     match value_at(table, "domain") {
         None => Ok(None),
@@ -79,7 +81,9 @@ fn naming_fault(
     known: &IndexSet<&str>,
     table: &Table,
 ) -> Result<Option<PlanFault>, OutOfMemory>
-    ensures { IfOk result (λ fault. fault ≡ naming_fault number (texts_at names.now.keys) (texts_at known.now.keys) (table_view table.now)) }
+    ensures { IfOk result (λ fault. fault
+        ≡ naming_fault number (texts_at names.now.keys) (texts_at known.now.keys)
+        (table_view table.now)) }
 {
     let key = domain_key(alloc, number, "name")?;
     if let Some(fault) = required_name_fault(alloc, key, names, table)? {
@@ -121,7 +125,9 @@ fn next_domain_fault(
     known: &IndexSet<&str>,
     table: &Table,
 ) -> Result<Option<PlanFault>, OutOfMemory>
-    ensures { IfOk result (λ fault. fault ≡ next_domain_fault number (texts_at names.now.keys) (texts_at known.now.keys) (table_view table.now)) }
+    ensures { IfOk result (λ fault. fault
+        ≡ next_domain_fault number (texts_at names.now.keys) (texts_at known.now.keys)
+        (table_view table.now)) }
 {
     if let Some(fault) = naming_fault(alloc, number, names, known, table)? {
         return Ok(Some(fault));

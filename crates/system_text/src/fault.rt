@@ -5,8 +5,8 @@ ghost use Rattle.system_text.specs.declared.fault.PlanError.TheVariants.{OutOfMe
 use jx_base::Text;
 use std::alloc::{AllocError, AllocFailed};
 
-/// The first fault of a description. `Twice` carries the name that is there twice, each other the key, as
-/// `granules` or `domain[0].heap`; domains are counted from 0.
+/// The first fault of a description. `Twice` carries the name that is there twice, each other the
+/// key, as `granules` or `domain[0].heap`; domains are counted from 0.
 #[derive(Drop)]
 pub enum PlanFault {
     NotToml,

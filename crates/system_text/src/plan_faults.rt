@@ -2,7 +2,8 @@
 ghost use Rattle.std.specs.Prelude.{◌≡◌, IfOk};
 ghost use Rattle.toml.specs.View.{table_view};
 ghost use Rattle.system_text.specs.Description.{domains_in};
-ghost use Rattle.system_text.specs.Scan.{machine_fault, scanned_fault, tables_at, unknown_key_fault};
+ghost use Rattle.system_text.specs.Scan.{machine_fault, scanned_fault, tables_at};
+ghost use Rattle.system_text.specs.Scan.{unknown_key_fault};
 
 use crate::domain_faults::{domains_fault, optional_domains_fault};
 use crate::fault::PlanFault;

@@ -2,7 +2,8 @@
 ghost use Rattle.std.specs.Prelude.{◌≡◌, IfOk, map};
 ghost use Rattle.toml.specs.View.{table_view};
 ghost use Rattle.system_text.specs.Description.{place_in};
-ghost use Rattle.system_text.specs.Scan.{capped, capped_plan, capped_template, names_of_all, tables_at, texts_at};
+ghost use Rattle.system_text.specs.Scan.{capped, capped_plan, capped_template, names_of_all};
+ghost use Rattle.system_text.specs.Scan.{tables_at, texts_at};
 
 use crate::text_sets::{insert_all, place_in};
 use crate::texts::names_of;
@@ -17,7 +18,8 @@ fn places_of(
     names: &IndexSet<&str>,
     texts: &[&str],
 ) -> Result<Listed<u32>, OutOfMemory>
-    ensures { IfOk result (λ places. places ≡ map (λ name. capped (place_in (texts_at names.now.keys) name)) (texts_at texts.now)) }
+    ensures { IfOk result (λ places. places
+        ≡ map (λ name. capped (place_in (texts_at names.now.keys) name)) (texts_at texts.now)) }
 {
     let mut places = Vec::with_capacity(alloc, texts.len())?;
     for text in texts {
@@ -28,7 +30,8 @@ fn places_of(
 
 #[tactic(auto, unfolding(crate::specs::Scan::capped_template))]
 fn template(alloc: Global, classes: &IndexSet<&str>, table: &Table) -> Result<Template, OutOfMemory>
-    ensures { IfOk result (λ template. template ≡ capped_template (texts_at classes.now.keys) (table_view table.now)) }
+    ensures { IfOk result (λ template. template
+        ≡ capped_template (texts_at classes.now.keys) (table_view table.now)) }
 {
     let listed = classes_in(alloc, table)?;
     Ok(Template {
@@ -46,7 +49,8 @@ fn templates(
     classes: &IndexSet<&str>,
     domains: &[&Table],
 ) -> Result<Vec<Template>, OutOfMemory>
-    ensures { IfOk result (λ templates. templates.items ≡ map (capped_template (texts_at classes.now.keys)) (tables_at domains.now)) }
+    ensures { IfOk result (λ templates. templates.items
+        ≡ map (capped_template (texts_at classes.now.keys)) (tables_at domains.now)) }
 {
     let mut templates = Vec::with_capacity(alloc, domains.len())?;
     for table in domains {
@@ -67,7 +71,8 @@ fn class_names<'a>(alloc: Global, domains: &[&'a Table]) -> Result<IndexSet<&'a 
     Ok(names)
 }
 
-/// The plan that a table without faults describes. Numbers above `u32`, which are faults, are capped.
+/// The plan that a table without faults describes. Numbers above `u32`, which are faults, are
+/// capped.
 #[tactic(auto, unfolding(crate::specs::Scan::capped_plan))]
 pub fn plan_of(alloc: Global, table: &Table) -> Result<Plan, OutOfMemory>
     ensures { IfOk result (λ plan. plan ≡ capped_plan (table_view table.now)) }

@@ -3,7 +3,8 @@ ghost use Rattle.std.specs.Prelude.{◌≡◌, Some, IfOk, IfErr, option_map};
 ghost use Rattle.toml.specs.View.{table_view};
 ghost use Rattle.jx_base.specs.declared.program.Plan.{Plan};
 ghost use Rattle.system_text.specs.declared.fault.PlanFault.{PlanFault};
-ghost use Rattle.system_text.specs.Description.{plan_fault, table_of, Describes, IsPlan, IsPlanFault, one_class_plan};
+ghost use Rattle.system_text.specs.Description.{plan_fault, table_of, Describes, IsPlan};
+ghost use Rattle.system_text.specs.Description.{IsPlanFault, one_class_plan};
 ghost use Rattle.system_text.specs.Answers.{IsNamed, IsPlanOrMemory, IsFaultOrMemory};
 
 use crate::fault::{PlanError, PlanFault};
@@ -49,8 +50,8 @@ fn read(alloc: Global, bytes: &[u8]) -> Result<Plan, PlanError>
     }
 }
 
-/// The plan that a TOML text describes, as docs/description.md says. Else `Bad` names the first fault, and
-/// `OutOfMemory` says that memory was refused.
+/// The plan that a TOML text describes, as docs/description.md says. Else `Bad` names the first
+/// fault, and `OutOfMemory` says that memory was refused.
 pub fn read_system(alloc: Global, bytes: &[u8]) -> Result<Plan, PlanError>
     ensures found { IfOk result (Describes bytes.now) }
     ensures fault { IfErr result (IsNamed (IsPlanFault bytes.now)) }
@@ -60,7 +61,8 @@ pub fn read_system(alloc: Global, bytes: &[u8]) -> Result<Plan, PlanError>
     read(alloc, bytes)
 }
 
-/// The plan of a system of one class, which is its one domain's main class. The domain is named `main`.
+/// The plan of a system of one class, which is its one domain's main class. The domain is named
+/// `main`.
 #[tactic(auto, unfolding(crate::specs::Description::one_class_plan))]
 pub fn one_class(alloc: Global, name: &str) -> Result<Plan, OutOfMemory>
     ensures { IfOk result (λ plan. plan ≡ one_class_plan name.now) }

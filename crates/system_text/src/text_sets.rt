@@ -20,14 +20,16 @@ pub fn has_text(set: &IndexSet<&str>, text: &str) -> bool
 /// Puts a new text into the set, and says whether it was new.
 pub fn insert<'a>(set: &mut IndexSet<&'a str>, text: &'a str) -> Result<bool, OutOfMemory>
     ensures added { IfOk result (λ added. added ≡ not (has_text (texts_at set.old.keys) text.now)) }
-    ensures texts { IfOk result (λ _. texts_at set.new.keys ≡ with_new (texts_at set.old.keys) text.now) }
+    ensures texts { IfOk result
+        (λ _. texts_at set.new.keys ≡ with_new (texts_at set.old.keys) text.now) }
 {
     Ok(set.insert(text)?)
 }
 
 /// Puts those of the texts into the set that are new, in their order.
 pub fn insert_all<'a>(set: &mut IndexSet<&'a str>, texts: &[&'a str]) -> Result<(), OutOfMemory>
-    ensures { IfOk result (λ _. texts_at set.new.keys ≡ with_all_new (texts_at set.old.keys) (texts_at texts.now)) }
+    ensures { IfOk result (λ _. texts_at set.new.keys
+        ≡ with_all_new (texts_at set.old.keys) (texts_at texts.now)) }
 {
     for text in texts {
         insert(set, text)?;
@@ -37,7 +39,8 @@ pub fn insert_all<'a>(set: &mut IndexSet<&'a str>, texts: &[&'a str]) -> Result<
 
 /// How many texts the set would have with those others.
 pub fn count_with(alloc: Global, set: &IndexSet<&str>, texts: &[&str]) -> Result<usize, OutOfMemory>
-    ensures { IfOk result (λ count. count ≡ length (with_all_new (texts_at set.now.keys) (texts_at texts.now))) }
+    ensures { IfOk result (λ count. count
+        ≡ length (with_all_new (texts_at set.now.keys) (texts_at texts.now))) }
 {
     let mut fresh = IndexSet::new(alloc);
     for text in texts {
@@ -50,7 +53,8 @@ pub fn count_with(alloc: Global, set: &IndexSet<&str>, texts: &[&str]) -> Result
 
 /// The first text that stood before.
 pub fn first_repeated<'a>(alloc: Global, texts: &[&'a str]) -> Result<Option<&'a str>, OutOfMemory>
-    ensures { IfOk result (λ text. option_map (λ text. text.now) text ≡ first_repeated (texts_at texts.now)) }
+    ensures { IfOk result (λ text. option_map (λ text. text.now) text
+        ≡ first_repeated (texts_at texts.now)) }
 {
     let mut seen = IndexSet::new(alloc);
     for text in texts {

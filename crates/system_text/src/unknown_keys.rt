@@ -12,7 +12,8 @@ use std::alloc::Global;
 use toml::Table;
 
 fn unknown_key<'a>(known: &[&str], table: &'a Table) -> Option<&'a str>
-    ensures { option_map (λ key. key.now) result ≡ find (λ key. not (has_text (texts_at known.now) key)) (keys_in (table_view table.now)) }
+    ensures { option_map (λ key. key.now) result
+        ≡ find (λ key. not (has_text (texts_at known.now) key)) (keys_in (table_view table.now)) }
 {
     for key in table.keys() {
         if !is_among(known, key.as_str()) {
@@ -25,7 +26,8 @@ fn unknown_key<'a>(known: &[&str], table: &'a Table) -> Option<&'a str>
 /// The fault of the first key of the description that is not known.
 #[tactic(auto, unfolding(crate::specs::Keys::unknown_fault, crate::specs::Description::top_keys))]
 pub fn unknown_top_fault(alloc: Global, table: &Table) -> Result<Option<PlanFault>, OutOfMemory>
-    ensures { IfOk result (λ fault. fault ≡ unknown_fault top_keys (λ key. key) (table_view table.now)) }
+    ensures { IfOk result (λ fault. fault
+        ≡ unknown_fault top_keys (λ key. key) (table_view table.now)) }
 {
     match unknown_key(&["granules", "journal", "domain"], table) {
         Some(key) => Ok(Some(PlanFault::Unknown(units_of(alloc, key)?))),
@@ -39,7 +41,8 @@ fn unknown_domain_fault(
     number: usize,
     table: &Table,
 ) -> Result<Option<PlanFault>, OutOfMemory>
-    ensures { IfOk result (λ fault. fault ≡ unknown_fault domain_keys (domain_key number) (table_view table.now)) }
+    ensures { IfOk result (λ fault. fault
+        ≡ unknown_fault domain_keys (domain_key number) (table_view table.now)) }
 {
     let known = ["name", "classes", "main", "heap", "fuel", "boot"];
     match unknown_key(&known, table) {

@@ -3,7 +3,8 @@ ghost use Rattle.std.specs.Prelude.{◌≡◌, ◌&&◌, IfOk, codes, nat_le};
 ghost use Rattle.std.specs.List.{list_all, filter_map};
 ghost use Rattle.toml.specs.Data.{as_str, get_member};
 ghost use Rattle.toml.specs.View.{table_view, view};
-ghost use Rattle.system_text.specs.Keys.{is_between, number_fault, switch_fault, is_domain_name, name_fault, main_fault, required_fault, optional_fault};
+ghost use Rattle.system_text.specs.Keys.{is_between, number_fault, switch_fault, is_domain_name};
+ghost use Rattle.system_text.specs.Keys.{name_fault, main_fault, required_fault, optional_fault};
 ghost use Rattle.system_text.specs.Scan.{texts_at};
 
 use crate::fault::PlanFault;
@@ -45,7 +46,8 @@ pub fn required_number_fault(
     table: &Table,
     name: &str,
 ) -> Option<PlanFault>
-    ensures { result ≡ required_fault key (number_fault key low high) (get_member name.now (table_view table.now)) }
+    ensures { result ≡ required_fault key (number_fault key low high)
+        (get_member name.now (table_view table.now)) }
 {
     match value_at(table, name) {
         None => Some(PlanFault::Missing(key)),
@@ -61,7 +63,8 @@ pub fn optional_number_fault(
     table: &Table,
     name: &str,
 ) -> Option<PlanFault>
-    ensures { result ≡ optional_fault (number_fault key low high) (get_member name.now (table_view table.now)) }
+    ensures { result ≡ optional_fault (number_fault key low high)
+        (get_member name.now (table_view table.now)) }
 {
     match value_at(table, name) {
         None => None,
@@ -71,7 +74,8 @@ pub fn optional_number_fault(
 
 #[tactic(auto, unfolding(crate::specs::Keys::switch_fault, crate::specs::Keys::optional_fault))]
 pub fn switch_fault(key: Text, table: &Table, name: &str) -> Option<PlanFault>
-    ensures { result ≡ optional_fault (switch_fault key) (get_member name.now (table_view table.now)) }
+    ensures { result ≡ optional_fault (switch_fault key)
+        (get_member name.now (table_view table.now)) }
 {
     match value_at(table, name) {
         None => None,
@@ -108,7 +112,8 @@ fn name_fault(
     names: &IndexSet<&str>,
     value: &Value,
 ) -> Result<Option<PlanFault>, OutOfMemory>
-    ensures { IfOk result (λ fault. fault ≡ name_fault key (texts_at names.now.keys) (view value.now)) }
+    ensures { IfOk result (λ fault. fault
+        ≡ name_fault key (texts_at names.now.keys) (view value.now)) }
 {
     let Some(name) = value.as_str() else {
         return Ok(Some(PlanFault::Kind(key)));
@@ -129,7 +134,9 @@ pub fn required_name_fault(
     names: &IndexSet<&str>,
     table: &Table,
 ) -> Result<Option<PlanFault>, OutOfMemory>
-    ensures { IfOk result (λ fault. fault ≡ required_fault key (name_fault key (texts_at names.now.keys)) (get_member (codes "name") (table_view table.now))) }
+    ensures { IfOk result (λ fault. fault
+        ≡ required_fault key (name_fault key (texts_at names.now.keys))
+        (get_member (codes "name") (table_view table.now))) }
 {
     match value_at(table, "name") {
         None => Ok(Some(PlanFault::Missing(key))),

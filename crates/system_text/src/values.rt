@@ -4,7 +4,8 @@ ghost use Rattle.std.specs.List.{filter_map};
 ghost use Rattle.toml.specs.Data.{as_str, as_table, get_member};
 ghost use Rattle.toml.specs.View.{table_view, view};
 ghost use Rattle.system_text.specs.Keys.{array_items};
-ghost use Rattle.system_text.specs.Description.{classes_in, domains_in, number_in, switch_in, text_in};
+ghost use Rattle.system_text.specs.Description.{classes_in, domains_in, number_in, switch_in};
+ghost use Rattle.system_text.specs.Description.{text_in};
 ghost use Rattle.system_text.specs.Scan.{capped, tables_at, texts_at};
 
 use jx_base::OutOfMemory;
@@ -13,7 +14,8 @@ use toml::{Table, Value};
 
 /// The value at a key.
 pub fn value_at<'a>(table: &'a Table, key: &str) -> Option<&'a Value>
-    ensures { option_map (λ value. view value.now) result ≡ get_member key.now (table_view table.now) }
+    ensures { option_map (λ value. view value.now) result
+        ≡ get_member key.now (table_view table.now) }
 {
     table.get(key)
 }
@@ -83,7 +85,8 @@ pub fn switch_in(table: &Table, key: &str, default: bool) -> bool
 
 /// The tables among the values.
 pub fn tables_of(alloc: Global, values: &[Value]) -> Result<Vec<&Table>, OutOfMemory>
-    ensures { IfOk result (λ tables. tables_at tables.items ≡ filter_map as_table (map view values.now)) }
+    ensures { IfOk result (λ tables. tables_at tables.items
+        ≡ filter_map as_table (map view values.now)) }
 {
     let mut tables = Vec::new(alloc);
     for value in values {
@@ -96,7 +99,8 @@ pub fn tables_of(alloc: Global, values: &[Value]) -> Result<Vec<&Table>, OutOfMe
 
 /// The texts among the values.
 pub fn texts_of(alloc: Global, values: &[Value]) -> Result<Vec<&str>, OutOfMemory>
-    ensures { IfOk result (λ texts. texts_at texts.items ≡ filter_map as_str (map view values.now)) }
+    ensures { IfOk result (λ texts. texts_at texts.items
+        ≡ filter_map as_str (map view values.now)) }
 {
     let mut texts = Vec::new(alloc);
     for value in values {

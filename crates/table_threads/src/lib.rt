@@ -1,2 +1,3 @@
-//! What one more entry changes of the records of domains, threads and calls, and of the binds, as lemmas.
+//! What one more entry changes of the records of domains, threads and calls, and of the binds, as
+//! lemmas.
 #![tactic(auto)]

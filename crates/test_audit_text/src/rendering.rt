@@ -1,6 +1,7 @@
 //! The audit of a history that is made by hand.
 ghost use Rattle.std.specs.Prelude.{◌≡◌, IfOk};
-ghost use Rattle.test_audit_text.specs.HandMade.{small_template, small_system, plain_entry, odd_text, hand_made};
+ghost use Rattle.test_audit_text.specs.HandMade.{small_template, small_system, plain_entry};
+ghost use Rattle.test_audit_text.specs.HandMade.{odd_text, hand_made};
 
 use audit_text::render;
 use jx_base::{

@@ -105,7 +105,8 @@ fn texts_reach_their_limits(rt: HostRuntime) -> Result<(), Fail> {
     Ok(())
 }
 
-// A class whose methods have so many instructions with ints that are all different, at most 20,000 a method.
+// A class whose methods have so many instructions with ints that are all different, at most 20,000
+// a method.
 fn with_ints(alloc: Global, mnemonic: &str, count: u32) -> Result<Vec<u8>, OutOfMemory> {
     let mut text = Vec::new(alloc);
     push(&mut text, b"class 0x0021 T java/lang/Object\n")?;

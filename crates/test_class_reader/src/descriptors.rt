@@ -99,8 +99,8 @@ fn class_with(alloc: Global, text: &str, behind: &str) -> Result<Vec<u8>, OutOfM
     Ok(bytes)
 }
 
-/// Asserts that of each descriptor just its fault is found, where the member that has it is so many bytes
-/// behind the constants.
+/// Asserts that of each descriptor just its fault is found, where the member that has it is so many
+/// bytes behind the constants.
 fn try_each(
     rt: &impl Abort,
     alloc: Global,

@@ -12,7 +12,8 @@ pub type Case = (&'static str, &'static str, Option<(u32, ClassKind)>);
 /// What stands behind the constants of a class of no members: 14 bytes.
 pub const NO_MEMBERS: &str = "0021 0002 0002 0000 0000 0000 0000";
 
-// The constants are "A", the Class A, "m", "()V", "Code" and "I", at 10, 14, 17, 21, 27 and 34. They end at 38.
+// The constants are "A", the Class A, "m", "()V", "Code" and "I", at 10, 14, 17, 21, 27 and 34.
+// They end at 38.
 const MAGIC_AND_VERSION: &str = "cafebabe 0000 0034";
 
 const CONSTANTS: &str =
@@ -49,7 +50,8 @@ pub fn bytes_of(alloc: Global, hex: &str) -> Result<Vec<u8>, OutOfMemory> {
     Ok(bytes)
 }
 
-/// The class file of a constant count, of the six constants and more, and of what stands behind them.
+/// The class file of a constant count, of the six constants and more, and of what stands behind
+/// them.
 pub fn class_of(alloc: Global, parts: [&str; 3]) -> Result<Vec<u8>, OutOfMemory> {
     let [count, more, behind] = parts;
     let mut bytes = bytes_of(alloc, MAGIC_AND_VERSION)?;
@@ -88,8 +90,8 @@ pub fn try_class(
     Ok(())
 }
 
-/// Asserts the same of each class file of six constants. `front` stands in front of what each case has
-/// behind the constants.
+/// Asserts the same of each class file of six constants. `front` stands in front of what each case
+/// has behind the constants.
 pub fn try_each(rt: &impl Abort, alloc: Global, front: &str, cases: &[Case]) -> Result<(), Fail> {
     for (name, behind, want) in cases {
         let mut bytes = class_of(alloc, ["0007", "", front])?;

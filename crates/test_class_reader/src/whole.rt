@@ -8,8 +8,8 @@ use std::alloc::Global;
 use std::process::Abort;
 use std::test::Fail;
 
-/// Asserts the numbers of a class file: the minor and major version, the constant count, the flags, this and the super
-/// class, and how many interfaces, fields and methods there are.
+/// Asserts the numbers of a class file: the minor and major version, the constant count, the flags,
+/// this and the super class, and how many interfaces, fields and methods there are.
 fn try_numbers(rt: &impl Abort, file: &ClassFile, want: [usize; 9]) {
     let counts = [
         file.minor as usize,
@@ -31,7 +31,8 @@ fn try_code(rt: &impl Abort, code: &Code, sizes: [u32; 3], bytes: &[u8]) {
     assert!(rt; code.table.as_slice().is_empty());
 }
 
-/// Asserts a method with code: its flags, name and descriptor, and max_stack, max_locals, the place and the bytes of its code.
+/// Asserts a method with code: its flags, name and descriptor, and max_stack, max_locals, the place
+/// and the bytes of its code.
 fn try_method(
     rt: &impl Abort,
     alloc: Global,

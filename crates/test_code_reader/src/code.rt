@@ -221,7 +221,8 @@ fn switches_have_these_first_faults(rt: HostRuntime) {
             &[0xaa, 0, 0, 0, 0, 0, 0, 0, 128, 0, 0, 0, 127, 255, 255, 255],
             (0, Some(CodeKind::Truncated)),
         ),
-        // a negative count, keys that are the same, and keys that are the same before others that are missing
+        // a negative count, keys that are the same, and keys that are the same before others that
+        // are missing
         (
             &[0xab, 0, 0, 0, 0, 0, 0, 0, 255, 255, 255, 255],
             (0, Some(CodeKind::BadRange)),

@@ -27,7 +27,8 @@ fn bad_classes_are_told(rt: HostRuntime) -> Result<(), Fail> {
     let alloc = rt.alloc();
     let words = strings(alloc, &["run", "Hello.class"])?;
     let none: &[u8] = &[];
-    // The code begins at 179: opcode BA is left out, CA is unassigned, and a load of a constant needs an index.
+    // The code begins at 179: opcode BA is left out, CA is unassigned, and a load of a constant
+    // needs an index.
     for (len, more, said) in [
         (0, none, "jx: bad class Hello at 0 kind 1\n"),
         (190, none, "jx: bad class Hello at 190 kind 1\n"),

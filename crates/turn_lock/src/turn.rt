@@ -90,7 +90,8 @@ impl Pass {
 }
 
 impl<T: Chronicle> Turn<T> {
-    ghost use Rattle.turn_lock.specs.Standing.{SeesOwn, first_standing, parted_from, part_of, IsTaken, IsGiven, IsJoined};
+    ghost use Rattle.turn_lock.specs.Standing.{SeesOwn, first_standing, parted_from, part_of};
+    ghost use Rattle.turn_lock.specs.Standing.{IsTaken, IsGiven, IsJoined};
 
     /// A new lock, and Domain Zero's pass. The value goes where there is no memory.
     #[tactic(auto, unfolding(jx_base::specs::Histories::own_entries))]
