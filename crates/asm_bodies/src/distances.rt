@@ -11,7 +11,7 @@ use asm_lines::{Line, Operand};
 use jx_base::OutOfMemory;
 use std::alloc::Global;
 
-/// Whether two bytes say the distance from the instruction at `pc`.
+// Whether two bytes say the distance from the instruction at `pc`.
 #[tactic(auto, unfolding(crate::specs::Bodies::is_near))]
 fn is_near(pc: usize, to: usize) -> bool
     ensures { result ≡ is_near pc to }
@@ -44,7 +44,7 @@ fn has_far_operand(marks: &Marks, pc: usize, operands: &[Operand]) -> bool
         .any(|operand| is_far_operand(marks, pc, operand))
 }
 
-/// Whether a label is too far from the line at `pc`.
+// Whether a label is too far from the line at `pc`.
 #[tactic(auto, unfolding(crate::specs::Bodies::is_far))]
 fn is_far(marks: &Marks, pc: usize, line: &Line) -> bool
     ensures { result ≡ is_far marks.now pc line.now }
@@ -57,7 +57,7 @@ fn is_far(marks: &Marks, pc: usize, line: &Line) -> bool
     }
 }
 
-/// The place of the first line of a body with those labels that is too far from one of them.
+// The place of the first line of a body with those labels that is too far from one of them.
 fn first_far_from(marks: &Marks, body: &[Line]) -> Result<Option<usize>, OutOfMemory>
     ensures place { IfOk result (λ place. place ≡ first_far_from marks.now 0 body.now) }
     ensures within { IfOk result (λ place. IfSome place (λ i. i < length body.now)) }
@@ -72,7 +72,7 @@ fn first_far_from(marks: &Marks, body: &[Line]) -> Result<Option<usize>, OutOfMe
     Ok(None)
 }
 
-/// The place of the first line of a body that is too far from one of its labels.
+// The place of the first line of a body that is too far from one of its labels.
 fn first_far_in(alloc: Global, body: &[Line]) -> Result<Option<usize>, OutOfMemory>
     ensures place { IfOk result (λ place. place ≡ first_far_in body.now) }
     ensures within { IfOk result (λ place. IfSome place (λ i. i < length body.now)) }

@@ -7,7 +7,7 @@ use asm_lines::{Instruction, Line, Operand};
 use jx_base::OutOfMemory;
 use std::alloc::AllocError;
 
-/// The bytes of an operand of the instruction at `pc`.
+// The bytes of an operand of the instruction at `pc`.
 #[tactic(auto, unfolding(crate::specs::Needs::operand_length, class_grammar::specs::CodeGrammar::padding_length))]
 fn operand_length(pc: usize, operand: &Operand) -> usize
     ensures { result ≡ operand_length pc operand.now }
@@ -20,7 +20,7 @@ fn operand_length(pc: usize, operand: &Operand) -> usize
     }
 }
 
-/// The bytes of an opcode, with wide in front of it where it is a wide one.
+// The bytes of an opcode, with wide in front of it where it is a wide one.
 #[tactic(auto, unfolding(crate::specs::Needs::opcode_length))]
 fn opcode_length(wide: bool) -> usize
     ensures { result ≡ opcode_length wide }
@@ -38,7 +38,7 @@ pub fn sum(length: usize, more: usize) -> Result<usize, OutOfMemory>
     }
 }
 
-/// The bytes of an instruction at `pc`.
+// The bytes of an instruction at `pc`.
 fn instruction_length(pc: usize, instruction: &Instruction) -> Result<usize, OutOfMemory>
     ensures { IfOk result (λ n. n ≡ instruction_length pc instruction.now) }
 {

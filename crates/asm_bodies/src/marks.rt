@@ -9,7 +9,7 @@ use jx_base::{OutOfMemory, Text};
 use std::alloc::Global;
 use std::marker::Model;
 
-/// Whether the first word of the line is `end`.
+// Whether the first word of the line is `end`.
 #[tactic(auto, unfolding(crate::specs::Bodies::ends))]
 fn ends(line: &Line) -> bool
     ensures { result ≡ ends line.now }

@@ -23,7 +23,7 @@ pub fn pc_of(marks: &Marks, label: &Text) -> usize
     marks.pc_of(label).unwrap_or(0)
 }
 
-/// The distance from one pc to another, in two's complement.
+// The distance from one pc to another, in two's complement.
 #[tactic(auto, unfolding(crate::specs::Files::distance))]
 fn distance(pc: usize, to: usize) -> usize
     ensures { result ≡ distance pc to }

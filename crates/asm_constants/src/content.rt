@@ -61,7 +61,7 @@ pub(crate) fn pair_content(
 }
 
 impl Reference {
-    /// Its tag in a class file.
+    // Its tag in a class file.
     #[tactic(auto, unfolding(crate::specs::Contents::tag_of))]
     fn tag(self) -> u8
         ensures { result ≡ tag_of self }

@@ -17,7 +17,7 @@ fn is_digit(unit: u16) -> bool
     unit >= 0x30 && unit <= 0x39
 }
 
-/// The number of the digits, or the largest one where that is too large.
+// The number of the digits, or the largest one where that is too large.
 fn magnitude(digits: &[u16]) -> Option<u64>
     ensures { result ≡ option_map (λ n. min n (2 ^ 64 - 1)) (natural_of digits.now) }
 {
@@ -36,7 +36,7 @@ fn magnitude(digits: &[u16]) -> Option<u64>
     Some(total)
 }
 
-/// The number that the digits say behind a minus, or the nearest one of 64 bits and a sign.
+// The number that the digits say behind a minus, or the nearest one of 64 bits and a sign.
 fn negative(digits: &[u16]) -> Option<i128>
     ensures { result ≡ option_map capped
         (option_map (λ n. pos 0 -ℤ pos n) (natural_of digits.now)) }
@@ -44,14 +44,14 @@ fn negative(digits: &[u16]) -> Option<i128>
     Some(-i128::from(magnitude(digits)?))
 }
 
-/// The number that the digits say, or the nearest one of 64 bits.
+// The number that the digits say, or the nearest one of 64 bits.
 fn positive(digits: &[u16]) -> Option<i128>
     ensures { result ≡ option_map capped (option_map pos (natural_of digits.now)) }
 {
     Some(i128::from(magnitude(digits)?))
 }
 
-/// The number that the word says, or the nearest one of 64 bits and a sign.
+// The number that the word says, or the nearest one of 64 bits and a sign.
 #[tactic(auto, unfolding(crate::specs::Numbers::number_of, crate::specs::Numbers::natural_of))]
 fn capped_number(word: &[u16]) -> Option<i128>
     ensures { result ≡ option_map capped (number_of word.now) }

@@ -27,7 +27,7 @@ fn is_upper(unit: u16) -> bool
     unit >= 0x41 && unit <= 0x5a
 }
 
-/// The unit of an escape's digits, if it is written so.
+// The unit of an escape's digits, if it is written so.
 #[tactic(auto, unfolding(crate::specs::Quotes::escaped_unit))]
 fn escaped_unit(a: u16, b: u16, c: u16, d: u16) -> Option<u16>
     ensures { result ≡ escaped_unit a b c d }
@@ -41,7 +41,7 @@ fn escaped_unit(a: u16, b: u16, c: u16, d: u16) -> Option<u16>
     }
 }
 
-/// The unit of the escape behind its backslash, and what stands behind it.
+// The unit of the escape behind its backslash, and what stands behind it.
 #[tactic(auto, unfolding(crate::specs::Readings::escape_at, crate::specs::Readings::with_rest))]
 fn escape_at(units: &[u16]) -> Option<(u16, &[u16])>
     ensures read { option_map (λ x. (x.0, x.1.now)) result ≡ escape_at units.now }
@@ -56,7 +56,7 @@ fn escape_at(units: &[u16]) -> Option<(u16, &[u16])>
     }
 }
 
-/// The unit at the front, and what stands behind it.
+// The unit at the front, and what stands behind it.
 #[tactic(auto, unfolding(crate::specs::Readings::unit_at))]
 fn unit_at(units: &[u16]) -> Option<(u16, &[u16])>
     ensures read { option_map (λ x. (x.0, x.1.now)) result ≡ unit_at units.now }
@@ -79,7 +79,7 @@ fn is_closing(units: &[u16]) -> bool
     }
 }
 
-/// The units up to the quote that stands at the end.
+// The units up to the quote that stands at the end.
 fn up_to_quote(alloc: Global, quoted: &[u16]) -> Result<Option<Text>, OutOfMemory>
     ensures { IfOk result (λ text. text ≡ up_to_quote quoted.now) }
 {

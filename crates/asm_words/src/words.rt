@@ -21,7 +21,7 @@ pub enum Position {
     Plain,
 }
 
-/// Where the first line feed stands.
+// Where the first line feed stands.
 fn line_end(text: &[u8]) -> Option<usize>
     ensures within { IfSome result (λ end. end < length text.now) }
     ensures first { result ≡ position (λ byte. byte == 10) text.now }
@@ -58,7 +58,7 @@ fn position_behind(position: Position, unit: u16) -> Option<Position>
     }
 }
 
-/// Where the space stands that ends the first word of the line, none if the line is one word.
+// Where the space stands that ends the first word of the line, none if the line is one word.
 fn word_end(line: &[u16]) -> Option<usize>
     ensures within { IfSome result (λ end. end < length line.now) }
     ensures splits { MatchOption result (words_of line.now ≡ line.now ∷ [])

@@ -17,7 +17,7 @@ use class_grammar::{is_interface_flag, place, u16_at, u32_at};
 use jx_base::{ClassFile, ClassKind, Constant, Listed};
 use std::alloc::Global;
 
-/// The minor and the major version, which are behind the magic number.
+// The minor and the major version, which are behind the magic number.
 #[tactic(auto, unfolding(class_grammar::specs::ClassGrammar::version_part))]
 fn version_at(size: u32, bytes: &[u8]) -> Result<(u16, u16, &[u8]), ReadFault>
     ensures read { Gives (λ x. (version x.0 x.1, x.2.now)) result
@@ -36,7 +36,7 @@ fn version_at(size: u32, bytes: &[u8]) -> Result<(u16, u16, &[u8]), ReadFault>
     Ok((minor, major, rest))
 }
 
-/// What stands behind the constants, up to the interfaces.
+// What stands behind the constants, up to the interfaces.
 #[derive(Drop)]
 struct Heading {
     flags: u16,
@@ -94,7 +94,7 @@ fn heading_at<'b>(
     Ok((heading, rest))
 }
 
-/// Nothing is left.
+// Nothing is left.
 #[tactic(auto, using(crate::proofs::Ends::ends))]
 fn ends_at(size: u32, bytes: &[u8]) -> Result<(), ReadFault>
     requires { length bytes.now ≤ size }

@@ -78,7 +78,7 @@ fn skipped_at(size: u32, number: u8, n: usize, bytes: &[u8]) -> Result<(Constant
     Ok((Constant::Skipped(number), rest))
 }
 
-/// What stands behind a tag, which is at a place.
+// What stands behind a tag, which is at a place.
 #[tactic(auto, unfolding(class_grammar::specs::Constants::constant_body, class_grammar::specs::Constants::constant_length, class_grammar::specs::Constants::skipped_length))]
 fn body_at(
     alloc: Global,

@@ -16,7 +16,7 @@ use class_texts::{is_floating_field, is_floating_method};
 use jx_base::{ClassKind, Code, Constant, Listed, Member, Text};
 use std::alloc::Global;
 
-/// Whether the profile has such a method, apart from its types.
+// Whether the profile has such a method, apart from its types.
 fn is_supported(interface: bool, flags: u16, name: &[u16]) -> bool
     ensures { result ≡ (not (is_native flags) && not (is_synchronized flags) &&
         (not interface || is_abstract flags || bytes_eq name.now (codes "<clinit>"))) }
@@ -26,7 +26,7 @@ fn is_supported(interface: bool, flags: u16, name: &[u16]) -> bool
         && (!interface || is_abstract(flags) || is_initialiser(name))
 }
 
-/// A field, with its attributes passed over.
+// A field, with its attributes passed over.
 #[tactic(auto, unfolding(class_grammar::specs::Members::field_part))]
 fn field_at<'b>(
     alloc: Global,
@@ -60,7 +60,7 @@ fn field_at<'b>(
     Ok((field, rest))
 }
 
-/// An attribute of a method, and the code that was found so far.
+// An attribute of a method, and the code that was found so far.
 #[tactic(auto, unfolding(crate::specs::Attributes::method_attribute))]
 fn attribute_at<'b>(
     alloc: Global,
@@ -92,7 +92,7 @@ fn attribute_at<'b>(
     Ok((Some(found), rest))
 }
 
-/// A method's attributes, so many of them, and the code among them.
+// A method's attributes, so many of them, and the code among them.
 fn attributes_at<'b>(
     alloc: Global,
     size: u32,
@@ -116,7 +116,7 @@ fn attributes_at<'b>(
     Ok((code, rest))
 }
 
-/// A method, with its code.
+// A method, with its code.
 #[tactic(auto, unfolding(class_grammar::specs::Members::method_part, class_grammar::specs::Members::is_supported_method))]
 fn method_at<'b>(
     alloc: Global,

@@ -11,7 +11,7 @@ use class_grammar::{names_member, names_text, place, u16_at};
 use jx_base::{ClassFault, ClassKind, Constant, Listed, OutOfMemory};
 use std::alloc::Global;
 
-/// How many indices a constant takes up.
+// How many indices a constant takes up.
 #[tactic(auto, unfolding(crate::specs::Pools::index_count))]
 fn index_count(constant: &Constant) -> u16
     ensures count { result ≡ index_count constant.now }
@@ -20,7 +20,7 @@ fn index_count(constant: &Constant) -> u16
     if is_wide(constant) { 2 } else { 1 }
 }
 
-/// Puts a constant at the end, with what stands at its other index.
+// Puts a constant at the end, with what stands at its other index.
 #[tactic(auto, unfolding(crate::specs::Pools::entries))]
 fn push_entries(constants: &mut Vec<Constant>, constant: Constant) -> Result<(), OutOfMemory>
     ensures { OnOk result (constants.new.items ≡ constants.old.items ++ entries constant) }
@@ -33,7 +33,7 @@ fn push_entries(constants: &mut Vec<Constant>, constant: Constant) -> Result<(),
     Ok(())
 }
 
-/// Constants that take up so many indices, behind the unusable one at index 0.
+// Constants that take up so many indices, behind the unusable one at index 0.
 #[tactic(auto, using(crate::proofs::Pools::pools))]
 fn constants_at(
     alloc: Global,
@@ -65,7 +65,7 @@ fn constants_at(
     Ok((constants, rest))
 }
 
-/// Whether a constant names constants of the tags that it needs.
+// Whether a constant names constants of the tags that it needs.
 #[tactic(auto, unfolding(class_grammar::specs::Constants::names_rightly))]
 fn is_rightly_naming(constants: &[Constant], constant: &Constant) -> bool
     ensures { result ≡ names_rightly constants.now constant.now }
@@ -82,7 +82,7 @@ fn is_rightly_naming(constants: &[Constant], constant: &Constant) -> bool
     }
 }
 
-/// The fault of the first of some constants, which stand at a place, that does not name rightly.
+// The fault of the first of some constants, which stand at a place, that does not name rightly.
 #[tactic(auto, unfolding(class_grammar::specs::Constants::misnaming_fault), using(crate::proofs::Pools::names))]
 fn misnaming(all: &[Constant], at: u32, constants: &[Constant]) -> Option<ClassFault>
     requires { at + constants_length constants.now < 2 ^ 32 }

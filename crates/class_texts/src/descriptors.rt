@@ -28,7 +28,7 @@ const DOUBLE: u16 = 0x44;
 
 const LONG: u16 = 0x4a;
 
-/// Whether a float or a double stands in some types, and the slots that their values take up.
+// Whether a float or a double stands in some types, and the slots that their values take up.
 #[derive(Clone, Copy)]
 struct Tally {
     floating: bool,
@@ -46,7 +46,7 @@ impl Tally {
         slots: 1,
     };
 
-    /// That of both, where 65535 stands for more slots too.
+    // That of both, where 65535 stands for more slots too.
     fn joined(self, other: Self) -> Self
         ensures { result ≡ joined self other }
     {
@@ -57,7 +57,7 @@ impl Tally {
     }
 }
 
-/// Whether a letter is one of `BCDFIJSZ`.
+// Whether a letter is one of `BCDFIJSZ`.
 #[tactic(auto, unfolding(class_grammar::specs::Descriptors::is_number_letter))]
 fn is_number(letter: u16) -> bool
     ensures { result ≡ is_number_letter letter }
@@ -68,7 +68,7 @@ fn is_number(letter: u16) -> bool
     )
 }
 
-/// The slots of a number under so many dimensions of arrays.
+// The slots of a number under so many dimensions of arrays.
 #[tactic(auto, unfolding(crate::specs::Slots::slots_of))]
 fn number_slots(dimensions: usize, letter: u16) -> u16
     ensures { result ≡ slots_of (number_type dimensions letter) }
@@ -90,7 +90,7 @@ fn number_tally(dimensions: usize, letter: u16) -> Tally
     }
 }
 
-/// What stands behind a class name, which takes up one unit or more, and its semicolon.
+// What stands behind a class name, which takes up one unit or more, and its semicolon.
 fn after_object(text: &[u16]) -> Option<&[u16]>
     ensures { (n : ℕ) → option_map (λ rest. (object_tally, rest.now)) result
         ≡ of_base n (object_at [] text.now) }
@@ -103,7 +103,7 @@ fn after_object(text: &[u16]) -> Option<&[u16]>
     None
 }
 
-/// What is told of the base at the front, under so many dimensions, and what stands behind it.
+// What is told of the base at the front, under so many dimensions, and what stands behind it.
 #[tactic(auto, unfolding(class_grammar::specs::Descriptors::base_at))]
 fn base_at(dimensions: usize, letter: u16, rest: &[u16]) -> Option<(Tally, &[u16])>
     ensures { option_map (λ x. (x.0, x.1.now)) result
@@ -121,7 +121,7 @@ fn base_at(dimensions: usize, letter: u16, rest: &[u16]) -> Option<(Tally, &[u16
     }
 }
 
-/// The same of the type at the front.
+// The same of the type at the front.
 fn type_at(text: &[u16]) -> Option<(Tally, &[u16])>
     ensures { option_map (λ x. (x.0, x.1.now)) result ≡ of_type (type_at 0 text.now) }
 {
@@ -143,7 +143,7 @@ fn after_closing(text: &[u16]) -> Option<&[u16]>
     }
 }
 
-/// The same of the types up to the closing parenthesis.
+// The same of the types up to the closing parenthesis.
 fn types_at(text: &[u16]) -> Option<(Tally, &[u16])>
     ensures { option_map (λ x. (x.0, x.1.now)) result
         ≡ of_types (types_at (length text.now) text.now) }
@@ -168,7 +168,7 @@ fn types_at(text: &[u16]) -> Option<(Tally, &[u16])>
     }
 }
 
-/// Whether the text is a field's descriptor, and then whether it is that of floats or doubles.
+// Whether the text is a field's descriptor, and then whether it is that of floats or doubles.
 #[tactic(auto, using(crate::proofs::Shapes::fields))]
 fn field_floats(text: &[u16]) -> Option<bool>
     ensures { result ≡ option_map is_floating (field_type_of text.now) }
@@ -185,7 +185,7 @@ fn field_floats(text: &[u16]) -> Option<bool>
     }
 }
 
-/// The same of a method's result, of which `V` has no type.
+// The same of a method's result, of which `V` has no type.
 #[tactic(auto, unfolding(class_grammar::specs::Descriptors::result_of, class_grammar::specs::Descriptors::is_floating_result))]
 fn result_floats(text: &[u16]) -> Option<bool>
     ensures { result ≡ option_map is_floating_result (result_of text.now) }
@@ -202,7 +202,7 @@ fn result_floats(text: &[u16]) -> Option<bool>
     }
 }
 
-/// Parameters, a closing parenthesis and a result.
+// Parameters, a closing parenthesis and a result.
 #[tactic(auto, using(crate::proofs::Shapes::signatures))]
 fn signature_tally(text: &[u16]) -> Option<Tally>
     ensures { result ≡ option_map tally_of_method (signature_of text.now) }
@@ -219,7 +219,7 @@ fn signature_tally(text: &[u16]) -> Option<Tally>
     }
 }
 
-/// Whether the text is a method's descriptor, and then what is told of it.
+// Whether the text is a method's descriptor, and then what is told of it.
 #[tactic(auto, unfolding(class_grammar::specs::Descriptors::method_type_of))]
 fn method_tally(text: &[u16]) -> Option<Tally>
     ensures { result ≡ option_map tally_of_method (method_type_of text.now) }

@@ -17,7 +17,7 @@ fn begins_one(byte: u8) -> bool
     byte >= 1 && byte < 0x80
 }
 
-/// The unit of two bytes, if they are its shortest form.
+// The unit of two bytes, if they are its shortest form.
 #[tactic(auto, unfolding(class_grammar::specs::ModifiedUtf8::is_two, class_grammar::specs::ModifiedUtf8::begins_two, class_grammar::specs::ModifiedUtf8::is_continuation, class_grammar::specs::ModifiedUtf8::unit_of_two, crate::specs::Texts::two))]
 fn two(b: u8, c: u8) -> Option<u16>
     ensures { result ≡ two b c }
@@ -33,7 +33,7 @@ fn two(b: u8, c: u8) -> Option<u16>
     }
 }
 
-/// The unit of three bytes, if they are its shortest form.
+// The unit of three bytes, if they are its shortest form.
 #[tactic(auto, unfolding(class_grammar::specs::ModifiedUtf8::is_three, class_grammar::specs::ModifiedUtf8::begins_three, class_grammar::specs::ModifiedUtf8::is_continuation, class_grammar::specs::ModifiedUtf8::unit_of_three, crate::specs::Texts::three))]
 fn three(b: u8, c: u8, d: u8) -> Option<u16>
     ensures { result ≡ three b c d }
@@ -73,7 +73,7 @@ fn unit_of_two(b: u8, bytes: &[u8]) -> Option<(u16, &[u8])>
     }
 }
 
-/// The unit at the front, and the bytes behind it.
+// The unit at the front, and the bytes behind it.
 #[tactic(auto, unfolding(crate::specs::Texts::unit_at))]
 fn unit_at(bytes: &[u8]) -> Option<(u16, &[u8])>
     ensures read { option_map (λ x. (x.0, x.1.now)) result ≡ unit_at bytes.now }

@@ -5,7 +5,7 @@ use jx_base::{ClassKind, OutOfMemory};
 use std::alloc::Global;
 use std::test::Fail;
 
-/// What stands between the constants and the one method, which is at 50.
+// What stands between the constants and the one method, which is at 50.
 const ONE_METHOD: &str = "0021 0002 0002 0000 0000 0001";
 
 static CODES: [Case; 26] = [
@@ -141,8 +141,8 @@ static CODES: [Case; 26] = [
     ),
 ];
 
-/// A class with a method of so many bytes of code, whose attribute's length and code length are
-/// written in hexadecimal.
+// A class with a method of so many bytes of code, whose attribute's length and code length are
+// written in hexadecimal.
 fn long_code(alloc: Global, attribute: &str, length: &str, n: u32) -> Result<Vec<u8>, OutOfMemory> {
     let front = "0021 0002 0002 0000 0000 0001 0009 0003 0004 0001 0005";
     let mut bytes = class_of(alloc, ["0007", "", front])?;

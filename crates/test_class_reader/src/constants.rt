@@ -6,7 +6,7 @@ use std::alloc::Global;
 use std::process::Abort;
 use std::test::Fail;
 
-/// A name, the constant count, the constants behind the six, and the fault that is found.
+// A name, the constant count, the constants behind the six, and the fault that is found.
 type Case = (
     &'static str,
     &'static str,

@@ -90,7 +90,7 @@ static METHODS: [(&str, Option<ClassKind>); 44] = [
     ("((I)V)V", Some(ClassKind::Descriptor)),
 ];
 
-/// The bytes of a class whose seventh constant is the text, of fewer than 256 bytes of ASCII.
+// The bytes of a class whose seventh constant is the text, of fewer than 256 bytes of ASCII.
 fn class_with(alloc: Global, text: &str, behind: &str) -> Result<Vec<u8>, OutOfMemory> {
     let mut bytes = class_of(alloc, ["0008", "01 00", ""])?;
     bytes.push((text.len() & 0xff) as u8)?;
@@ -99,8 +99,8 @@ fn class_with(alloc: Global, text: &str, behind: &str) -> Result<Vec<u8>, OutOfM
     Ok(bytes)
 }
 
-/// Asserts that of each descriptor just its fault is found, where the member that has it is so many
-/// bytes behind the constants.
+// Asserts that of each descriptor just its fault is found, where the member that has it is so many
+// bytes behind the constants.
 fn try_each(
     rt: &impl Abort,
     alloc: Global,

@@ -6,7 +6,7 @@ use jx_base::{ClassKind, OutOfMemory};
 use std::alloc::Global;
 use std::test::Fail;
 
-/// Each with the place of the other bytes.
+// Each with the place of the other bytes.
 static PATCHES: [(&str, usize, &str, Option<(u32, ClassKind)>); 14] = [
     ("another first byte", 0, "cb", Some((0, ClassKind::Magic))),
     (
@@ -49,7 +49,7 @@ static PATCHES: [(&str, usize, &str, Option<(u32, ClassKind)>); 14] = [
     ("no constants", 8, "0000", Some((8, ClassKind::Index))),
 ];
 
-/// The first class with other bytes at a place.
+// The first class with other bytes at a place.
 fn patched(alloc: Global, place: usize, hex: &str) -> Result<Vec<u8>, OutOfMemory> {
     let patch = bytes_of(alloc, hex)?;
     let mut bytes = Vec::from_slice(alloc, &FIRST_CLASS)?;

@@ -233,7 +233,7 @@ static METHODS: [Case; 18] = [
     ),
 ];
 
-/// Each with its constant count, the constants behind the six, and what stands behind them.
+// Each with its constant count, the constants behind the six, and what stands behind them.
 static WITH_MORE: [(&str, [&str; 3], Option<(u32, ClassKind)>); 6] = [
     (
         "a Long at the last index is cut off first",

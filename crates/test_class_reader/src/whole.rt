@@ -8,8 +8,8 @@ use std::alloc::Global;
 use std::process::Abort;
 use std::test::Fail;
 
-/// Asserts the numbers of a class file: the minor and major version, the constant count, the flags,
-/// this and the super class, and how many interfaces, fields and methods there are.
+// Asserts the numbers of a class file: the minor and major version, the constant count, the flags,
+// this and the super class, and how many interfaces, fields and methods there are.
 fn try_numbers(rt: &impl Abort, file: &ClassFile, want: [usize; 9]) {
     let counts = [
         file.minor as usize,
@@ -31,8 +31,8 @@ fn try_code(rt: &impl Abort, code: &Code, sizes: [u32; 3], bytes: &[u8]) {
     assert!(rt; code.table.as_slice().is_empty());
 }
 
-/// Asserts a method with code: its flags, name and descriptor, and max_stack, max_locals, the place
-/// and the bytes of its code.
+// Asserts a method with code: its flags, name and descriptor, and max_stack, max_locals, the place
+// and the bytes of its code.
 fn try_method(
     rt: &impl Abort,
     alloc: Global,
@@ -99,7 +99,7 @@ fn javac_class_is_read(rt: HostRuntime) -> Result<(), Fail> {
     try_method(&rt, alloc, methods.get(1), named, [1, 1, 291], &code)
 }
 
-/// A constant by its tag, or 0, and its numbers, or the length of its text.
+// A constant by its tag, or 0, and its numbers, or the length of its text.
 fn spelled(constant: &Constant) -> (u8, i64, u16) {
     match constant {
         Constant::Unusable => (0, 0, 0),
@@ -116,7 +116,7 @@ fn spelled(constant: &Constant) -> (u8, i64, u16) {
     }
 }
 
-/// The constants from index 7 on.
+// The constants from index 7 on.
 const MORE: &str =
     "03 80000000  05 8000000000000000  06 3ff0000000000000  04 3f800000  0f 01 0001  10 0001  12 0000 0001  \
     08 0003  0c 0003 0006  09 0002 0011  0a 0002 0011  0b 0002 0011  01 0002 c080";
