@@ -27,7 +27,7 @@ admitted = (
     (
       record { thread = refl; well_made = omega arith; reply = refl },
       (
-        record { thread = refl; well_made = tt; reply = refl },
+        record { thread = refl; well_made = omega arith; reply = refl },
         (
           record { thread = refl; well_made = tt; reply = refl },
           (

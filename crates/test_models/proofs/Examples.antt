@@ -4,7 +4,7 @@ use Rattle.std.proofs.Common.{arith, rules, sym}
 use Rattle.jx_base.specs.declared.frame.Frame.{Frame}
 use Rattle.jx_base.specs.declared.states.Exported.{Exported}
 use Rattle.jx_base.specs.declared.value.Value.TheVariants as value
-use Rattle.machine_model.specs.Conditions.{IsFrameOf, IsCoreOf, IsInstrOf, IsHeldBy, HasKnownInterface, HasCellsOfClass, HasUnits}
+use Rattle.machine_model.specs.Conditions.{IsFrameOf, IsCoreOf, IsInstrOf, IsHeldBy, HasKnownInterface, HasCellsOfClass, HasUnits, RefersToText}
 use Rattle.jx_base.specs.ClassNames.{is_class_name}
 use Rattle.program_model.specs.Plans.{IsTemplateInRange, IsPlanInRange}
 use Rattle.link_model.specs.LinkFaults.{IsLinked}
@@ -62,6 +62,12 @@ no_text same = omega (arith, same)
 no_array : ◌≡◌ {A = ℕ} 28 1 → ⊥
 no_array same = omega (arith, same)
 
+no_builder : ◌≡◌ {A = ℕ} 16 2 → ⊥
+no_builder same = omega (arith, same)
+
+no_array_builder : ◌≡◌ {A = ℕ} 28 2 → ⊥
+no_array_builder same = omega (arith, same)
+
 first_core_is_one : IsCoreOf (hello_system 1000000) first_core
 unfolding opened_model
 first_core_is_one =
@@ -74,6 +80,8 @@ first_core_is_one =
       interfaces = all_two (HasKnownInterface (hello_system 1000000)) (value.Ref 1) value.Null tt tt;
       cells = all_two (HasCellsOfClass (hello_system 1000000)) first_object second_object (λ other. refl) (λ other. tt);
       texts = all_two HasUnits first_object second_object (λ same. absurd (no_text same)) (λ same. absurd (no_array same));
+      builders = all_two (RefersToText first_core.store) first_object second_object
+        (λ same. absurd (no_builder same)) (λ same. absurd (no_array_builder same));
     }
 
 first_instr_is_one : IsInstrOf (hello_system 1000000) first_core first_frame [] (instr 0 0x12 9)
