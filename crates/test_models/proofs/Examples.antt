@@ -81,7 +81,7 @@ first_core_is_one =
       cells = all_two (HasCellsOfClass (hello_system 1000000)) first_object second_object (λ other. refl) (λ other. tt);
       texts = all_two HasUnits first_object second_object (λ same. absurd (no_text same)) (λ same. absurd (no_array same));
       builders = all_two (RefersToText first_core.store) first_object second_object
-        (λ same. absurd (no_builder same)) (λ same. absurd (no_array_builder same));
+          (λ same. absurd (no_builder same)) (λ same. absurd (no_array_builder same));
     }
 
 first_instr_is_one : IsInstrOf (hello_system 1000000) first_core first_frame [] (instr 0 0x12 9)
