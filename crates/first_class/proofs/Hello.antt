@@ -16,7 +16,9 @@ use Rattle.jx_base.specs.declared.program.Selector.{Selector}
 use Rattle.jx_base.specs.declared.program.System.{System}
 use Rattle.program_model.specs.BuiltIn.{built_in_table, built_in_class, array_class}
 use Rattle.link_model.specs.Linking.{linked_system}
-use Rattle.link_model.specs.LinkFaults.{LinkFault, NoClass, NoMethod, NoMain, BadConstant, WrongName, first_link_fault}
+use Rattle.link_model.specs.declared.fault.LinkFault.{LinkFault}
+use Rattle.link_model.specs.declared.fault.LinkKind.TheVariants.{NoClass, NoMethod, NoMain, BadConstant, WrongName}
+use Rattle.link_model.specs.LinkFaults.{first_link_fault}
 use Rattle.opened_models.specs.Opened.{opened_model}
 
 -- ---- the file and its plan

@@ -18,7 +18,10 @@ use Rattle.jx_base.specs.declared.program.Resolved.TheVariants as resolved
 use Rattle.jx_base.specs.declared.program.System.{System}
 use Rattle.jx_base.specs.declared.row.Row.TheVariants as row
 use Rattle.program_model.specs.BuiltIn.{built_in_table, built_in_count, array_class, class_below, built_in_class, opened_built_in}
-use Rattle.link_model.specs.ClassFiles.{Use, Used, AsClass, this_name, use_by, used_by, catch_uses, uses_of_code, arrays_of_name, class_at_index, class_mentioned, class_of_constant, constant_in, text_in, arrays_of_code, arrays_of_instr}
+use Rattle.link_model.specs.declared.uses.Use.{Use}
+use Rattle.link_model.specs.declared.uses.Use.TheVariants.{AsClass}
+use Rattle.link_model.specs.declared.uses.Used.{Used}
+use Rattle.link_model.specs.ClassFiles.{this_name, use_by, used_by, catch_uses, uses_of_code, arrays_of_name, class_at_index, class_mentioned, class_of_constant, constant_in, text_in, arrays_of_code, arrays_of_instr}
 use Rattle.program_model.specs.Instructions.{index_operand, instructions_of}
 use Rattle.link_model.specs.LinkFaults.{IsLinked, has_tag_for, dimensions_of}
 use Rattle.link_model.specs.Linking.{Source, outline, array_names, named_arrays, array_class_named, class_of_file, linked_method, meaning_of}

@@ -12,7 +12,9 @@ use Rattle.jx_base.specs.declared.class_file.Member.{Member}
 use Rattle.jx_base.specs.declared.program.Plan.{Plan}
 use Rattle.jx_base.specs.declared.row.Row.{Row}
 use Rattle.jx_base.specs.declared.row.Row.TheVariants as row
-use Rattle.link_model.specs.ClassFiles.{Use, Used, use_by, catch_uses, arrays_of_name, class_at_index, class_mentioned, arrays_of_instr, arrays_of_code, arrays_of_member, arrays_of, class_of_constant, constant_in, text_in, text_of_constant, class_name_in, name_of_constant}
+use Rattle.link_model.specs.declared.uses.Use.{Use}
+use Rattle.link_model.specs.declared.uses.Used.{Used}
+use Rattle.link_model.specs.ClassFiles.{use_by, catch_uses, arrays_of_name, class_at_index, class_mentioned, arrays_of_instr, arrays_of_code, arrays_of_member, arrays_of, class_of_constant, constant_in, text_in, text_of_constant, class_name_in, name_of_constant}
 use Rattle.program_model.specs.Instructions.{index_operand, instructions_of}
 use Rattle.program_model.specs.DistinctNames.{AreUnits}
 use Rattle.link_model.specs.Linking.{named_arrays, files_of}

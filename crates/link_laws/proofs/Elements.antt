@@ -18,7 +18,10 @@ use Rattle.jx_base.specs.declared.program.Template.{Template}
 use Rattle.jx_base.specs.declared.row.Row.{Row}
 use Rattle.jx_base.specs.declared.row.Row.TheVariants as row
 use Rattle.program_model.specs.BuiltIn.{built_in_table, opened_built_in}
-use Rattle.link_model.specs.ClassFiles.{Use, Used, AsClass, use_by, used_by, catch_uses, uses_of_code, uses_of, arrays_of_name, class_at_index, class_mentioned, class_of_constant, constant_in, text_in, arrays_of_code, arrays_of_instr}
+use Rattle.link_model.specs.declared.uses.Use.{Use}
+use Rattle.link_model.specs.declared.uses.Use.TheVariants.{AsClass}
+use Rattle.link_model.specs.declared.uses.Used.{Used}
+use Rattle.link_model.specs.ClassFiles.{use_by, used_by, catch_uses, uses_of_code, uses_of, arrays_of_name, class_at_index, class_mentioned, class_of_constant, constant_in, text_in, arrays_of_code, arrays_of_instr}
 use Rattle.program_model.specs.Instructions.{index_operand, instructions_of}
 use Rattle.link_model.specs.LinkFaults.{IsLinked, has_tag_for, dimensions_of, is_known, is_known_plain, is_known_type}
 use Rattle.link_model.specs.Linking.{array_names, named_arrays}

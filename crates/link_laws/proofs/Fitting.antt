@@ -19,7 +19,10 @@ use Rattle.jx_base.specs.declared.program.Template.{Template}
 use Rattle.jx_base.specs.declared.row.Row.{Row}
 use Rattle.jx_base.specs.declared.row.Row.TheVariants as row
 use Rattle.program_model.specs.BuiltIn.{built_in_table, built_in_count}
-use Rattle.link_model.specs.ClassFiles.{Use, Used, AsWord, AsLong, AsField, AsMethod, AsNew, AsClass, AsArray, use_by, used_by, catch_uses, uses_of_code, uses_of_member, uses_of, arrays_of_name, class_at_index, class_mentioned, arrays_of_instr, arrays_of_code, arrays_of_member, arrays_of, constant_in}
+use Rattle.link_model.specs.declared.uses.Use.{Use}
+use Rattle.link_model.specs.declared.uses.Use.TheVariants.{AsWord, AsLong, AsField, AsMethod, AsNew, AsClass, AsArray}
+use Rattle.link_model.specs.declared.uses.Used.{Used}
+use Rattle.link_model.specs.ClassFiles.{use_by, used_by, catch_uses, uses_of_code, uses_of_member, uses_of, arrays_of_name, class_at_index, class_mentioned, arrays_of_instr, arrays_of_code, arrays_of_member, arrays_of, constant_in}
 use Rattle.program_model.specs.Instructions.{index_operand, instructions_of}
 use Rattle.link_model.specs.LinkFaults.{dimensions_of, has_tag_for, use_fault, uses_fault}
 use Rattle.link_model.specs.Linking.{Source, outline, meanings_of, linked_method, named_arrays, array_names, files_of, meaning_of}

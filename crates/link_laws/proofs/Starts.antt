@@ -14,7 +14,8 @@ use Rattle.jx_base.specs.declared.program.System.{System}
 use Rattle.jx_base.specs.declared.program.Template.{Template}
 use Rattle.program_model.specs.BuiltIn.{built_in_count}
 use Rattle.link_model.specs.ClassFiles.{member_selector}
-use Rattle.link_model.specs.LinkFaults.{NoMain, Listing, is_main, main_fault, listing_at, listed_name}
+use Rattle.link_model.specs.declared.fault.LinkKind.TheVariants.{NoMain}
+use Rattle.link_model.specs.LinkFaults.{Listing, is_main, main_fault, listing_at, listed_name}
 use Rattle.link_model.specs.Linking.{Source, sources, declared_of, file_sources, file_sources_from, linked_method, linked_system, outline}
 use Rattle.program_model.specs.Lookup.{method_at, selector_at, selector_of_method}
 use Rattle.machine_model.specs.Start.{method_places, is_static_method_of, static_methods, started_classes, initializers, is_main_selector, mains}

@@ -11,7 +11,10 @@ use Rattle.jx_base.specs.declared.program.Template.{Template}
 use Rattle.jx_base.specs.Basics.{distinct}
 use Rattle.link_model.specs.ClassFiles.{this_name, super_name, interface_names}
 use Rattle.link_model.specs.Linking.{outline}
-use Rattle.link_model.specs.LinkFaults.{LinkFault, LinkKind, NoClass, SuperLoop, Twice, WrongName, fault_if, first_fault, named_fault, listed_name, listing_at, Listing, may_extend, may_implement, is_above_itself, repeated_name, class_fault, main_fault, uses_fault, template_fault, first_link_fault, IsLinked}
+use Rattle.link_model.specs.declared.fault.LinkFault.{LinkFault}
+use Rattle.link_model.specs.declared.fault.LinkKind.{LinkKind}
+use Rattle.link_model.specs.declared.fault.LinkKind.TheVariants.{NoClass, SuperLoop, Twice, WrongName}
+use Rattle.link_model.specs.LinkFaults.{fault_if, first_fault, named_fault, listed_name, listing_at, Listing, may_extend, may_implement, is_above_itself, repeated_name, class_fault, main_fault, uses_fault, template_fault, first_link_fault, IsLinked}
 use Rattle.link_laws.proofs.Lists.{Among, none_given, among_given, at_below, from_flat, firsts_there, in_range, below_length, same_items, from_map_at, same_text, same_there}
 use Rattle.std.specs.Option.{option_and_then, option_map}
 

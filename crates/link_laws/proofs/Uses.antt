@@ -24,8 +24,12 @@ use Rattle.jx_base.specs.declared.program.Template.{Template}
 use Rattle.jx_base.specs.declared.row.Invocation.{Invocation}
 use Rattle.jx_base.specs.declared.row.Invocation.TheVariants as invocation
 use Rattle.program_model.specs.BuiltIn.{built_in_table, string_class, zero_class, memory_class}
-use Rattle.link_model.specs.ClassFiles.{Use, Used, AsWord, AsLong, AsField, AsMethod, AsNew, AsClass, AsArray, constant_in, class_of_constant, member_of_constant, text_in, class_name_in, selector_in}
-use Rattle.link_model.specs.LinkFaults.{IsLinked, NoClass, Abstract, BadConstant, missing_kind, abstract_name, has_tag_for, has_shape_for, dimensions_of, is_known, is_known_plain, has_text, listed_names, listed_name, has_member, needs_abstract, is_field_for, is_method_for, calls_static, is_not_made, is_abstract_method, member_fault, use_fault, fault_if, is_known_type}
+use Rattle.link_model.specs.declared.uses.Use.{Use}
+use Rattle.link_model.specs.declared.uses.Use.TheVariants.{AsWord, AsLong, AsField, AsMethod, AsNew, AsClass, AsArray}
+use Rattle.link_model.specs.declared.uses.Used.{Used}
+use Rattle.link_model.specs.ClassFiles.{constant_in, class_of_constant, member_of_constant, text_in, class_name_in, selector_in}
+use Rattle.link_model.specs.declared.fault.LinkKind.TheVariants.{NoClass, Abstract, BadConstant}
+use Rattle.link_model.specs.LinkFaults.{IsLinked, missing_kind, abstract_name, has_tag_for, has_shape_for, dimensions_of, is_known, is_known_plain, has_text, listed_names, listed_name, has_member, needs_abstract, is_field_for, is_method_for, calls_static, is_not_made, is_abstract_method, member_fault, use_fault, fault_if, is_known_type}
 use Rattle.link_model.specs.Linking.{Source, outline, in_class, found_field, found_method, own_field, own_instance_field, own_static_field, statics_before, meaning_of, linked_method, linked_system, declared_of, with_meanings}
 use Rattle.program_model.specs.Lookup.{class_at, class_named, class_count, method_at, supers_of, is_interface}
 use Rattle.machine_model.specs.State.{static_types, static_types_of}

@@ -12,7 +12,10 @@ use Rattle.jx_base.specs.declared.row.Invocation.{Invocation}
 use Rattle.jx_base.specs.declared.row.Invocation.TheVariants as invocation
 use Rattle.class_grammar.specs.Flags.{is_static, is_abstract, is_interface_flag}
 use Rattle.program_model.specs.BuiltIn.{built_in_count, string_class, zero_class, memory_class}
-use Rattle.link_model.specs.ClassFiles.{Use, Used, AsWord, AsLong, AsField, AsMethod, AsNew, AsClass, AsArray, used_by}
+use Rattle.link_model.specs.declared.uses.Use.{Use}
+use Rattle.link_model.specs.declared.uses.Use.TheVariants.{AsWord, AsLong, AsField, AsMethod, AsNew, AsClass, AsArray}
+use Rattle.link_model.specs.declared.uses.Used.{Used}
+use Rattle.link_model.specs.ClassFiles.{used_by}
 use Rattle.link_model.specs.LinkFaults.{calls_static, dimensions_of}
 use Rattle.program_model.specs.Lookup.{class_at, class_count, method_at, constant_at}
 use Rattle.machine_model.specs.State.{static_types}

@@ -11,6 +11,9 @@ use Rattle.jx_base.specs.declared.program.Selector.{Selector}
 use Rattle.jx_base.specs.declared.row.Invocation.{Invocation}
 use Rattle.jx_base.specs.declared.row.Row.{Row}
 use Rattle.jx_base.specs.declared.row.Row.TheVariants as row
+use Rattle.link_model.specs.declared.uses.Use.{Use}
+use Rattle.link_model.specs.declared.uses.Use.TheVariants.{AsWord, AsLong, AsField, AsMethod, AsNew, AsClass, AsArray}
+use Rattle.link_model.specs.declared.uses.Used.{Used}
 use Rattle.program_model.specs.Types.{element_type}
 use Rattle.class_grammar.specs.Opcodes.{row_at}
 use Rattle.program_model.specs.Instructions.{index_operand, instructions_of}
@@ -82,21 +85,6 @@ member_of_constant f (constant.InterfaceMethod c x) = selector_in f x
 member_of_constant f _ = record { name = []; descriptor = [] }
 
 -- ---- uses
-
--- what a constant is used as: an Integer or a String, a Long, a static field or one of an instance, a method, a class to be made, a class, or an array class of so many dimensions
-pub data Use : Type 0 where
-  AsWord : Use
-  AsLong : Use
-  AsField : Bool → Use
-  AsMethod : Invocation → Use
-  AsNew : Use
-  AsClass : Use
-  AsArray : ℕ → Use
-
--- a use of the constant at an index
-pub record Used : Type 0 where
-  pub use_of : Use
-  pub index : ℕ
 
 -- what an instruction of a row uses a constant as
 unfoldable pub use_by : Row → Instr → Option Use

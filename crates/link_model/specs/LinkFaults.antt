@@ -18,24 +18,20 @@ use Rattle.jx_base.specs.declared.row.Invocation.{Invocation}
 use Rattle.jx_base.specs.declared.row.Invocation.TheVariants as invocation
 use Rattle.jx_base.specs.Basics.{first_some, passes, contains_number, firsts}
 unfoldable pub use Rattle.jx_base.specs.Basics.{first_fault, has_text}
+use Rattle.link_model.specs.declared.fault.LinkFault.{LinkFault}
+use Rattle.link_model.specs.declared.fault.LinkKind.{LinkKind}
+use Rattle.link_model.specs.declared.fault.LinkKind.TheVariants.{NoClass, NoField, NoMethod, SuperLoop, NoMain, Twice, Abstract, BadConstant, WrongName}
 use Rattle.program_model.specs.Types.{innermost_type, is_number_type}
 use Rattle.program_model.specs.BuiltIn.{built_in_table, throwable_classes, string_class, zero_class, memory_class}
 use Rattle.class_grammar.specs.Flags.{is_static, is_abstract, is_interface_flag}
 use Rattle.program_model.specs.Lookup.{class_at, class_named, method_at, is_interface, same_selector, class_name_of_type}
 use Rattle.program_model.specs.Plans.{IsPlanInRange}
-use Rattle.link_model.specs.ClassFiles.{constant_in, this_name, super_name, interface_names, class_of_constant, member_of_constant, member_selector, Use, AsWord, AsLong, AsField, AsMethod, AsNew, AsClass, AsArray, Used, uses_of_member}
+use Rattle.link_model.specs.declared.uses.Use.{Use}
+use Rattle.link_model.specs.declared.uses.Use.TheVariants.{AsWord, AsLong, AsField, AsMethod, AsNew, AsClass, AsArray}
+use Rattle.link_model.specs.declared.uses.Used.{Used}
+use Rattle.link_model.specs.ClassFiles.{constant_in, this_name, super_name, interface_names, class_of_constant, member_of_constant, member_selector, uses_of_member}
 use Rattle.link_model.specs.Linking.{outline, found_field, found_method, in_class, linked_system}
 use Rattle.std.specs.Option.{option_and_then, option_map}
-
--- the kinds of faults, in the order of their numbers
-pub data LinkKind : Type 0 where
-  NoClass NoField NoMethod SuperLoop NoMain Twice Abstract BadConstant WrongName : LinkKind
-
--- a fault: the class that was read, its kind, and the name that is missing or at fault
-pub record LinkFault : Type 0 where
-  pub class : List ℕ
-  pub kind : LinkKind
-  pub name : List ℕ
 
 -- a fault where a test passes
 unfoldable pub fault_if : Bool → List ℕ → LinkKind → List ℕ → Option LinkFault

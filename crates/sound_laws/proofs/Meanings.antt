@@ -12,7 +12,10 @@ use Rattle.jx_base.specs.declared.program.Resolved.{Resolved}
 use Rattle.jx_base.specs.declared.program.Resolved.TheVariants as resolved
 use Rattle.jx_base.specs.declared.program.System.{System}
 use Rattle.jx_base.specs.declared.row.Row.TheVariants as row
-use Rattle.link_model.specs.ClassFiles.{Use, Used, AsArray, use_by, used_by}
+use Rattle.link_model.specs.declared.uses.Use.{Use}
+use Rattle.link_model.specs.declared.uses.Use.TheVariants.{AsArray}
+use Rattle.link_model.specs.declared.uses.Used.{Used}
+use Rattle.link_model.specs.ClassFiles.{use_by, used_by}
 use Rattle.program_model.specs.Instructions.{Reading, instruction_at, index_operand}
 use Rattle.link_model.specs.LinkFaults.{dimensions_of}
 use Rattle.program_model.specs.Lookup.{class_at, constant_at, method_at}

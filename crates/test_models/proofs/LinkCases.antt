@@ -16,7 +16,10 @@ use Rattle.program_model.specs.Lookup.{class_at, constant_at, fits_type, shape_f
 use Rattle.program_model.specs.Types.{parameter_types, result_type, lies_in_type}
 use Rattle.link_model.specs.Linking.{linked_system}
 use Rattle.machine_model.specs.Start.{initializers}
-use Rattle.link_model.specs.LinkFaults.{LinkFault, LinkKind, NoClass, NoField, NoMethod, SuperLoop, NoMain, Twice, Abstract, BadConstant, first_link_fault}
+use Rattle.link_model.specs.declared.fault.LinkFault.{LinkFault}
+use Rattle.link_model.specs.declared.fault.LinkKind.{LinkKind}
+use Rattle.link_model.specs.declared.fault.LinkKind.TheVariants.{NoClass, NoField, NoMethod, SuperLoop, NoMain, Twice, Abstract, BadConstant}
+use Rattle.link_model.specs.LinkFaults.{first_link_fault}
 use Rattle.opened_models.specs.Opened.{opened_model}
 
 -- ---- files and plans

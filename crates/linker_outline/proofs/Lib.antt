@@ -1,0 +1,4 @@
+pub mod Positions
+pub mod SelectorKeys
+pub mod Layouts
+pub mod SelectorLists

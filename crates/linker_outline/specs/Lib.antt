@@ -1,0 +1,5 @@
+pub mod Indexed
+pub mod KeysAlike
+pub mod Keys
+pub mod Parts
+pub mod Fields

@@ -1,0 +1,16 @@
+//! The outline of a linked system: its classes, methods and selectors, without what the constants
+//! mean.
+#![tactic(auto)]
+
+mod classes;
+mod fields;
+mod method_selectors;
+mod names;
+mod parts;
+mod selectors;
+
+pub use classes::{array_class, class_of_file};
+pub use method_selectors::all_selectors;
+pub use names::{Names, Units};
+pub use parts::Parts;
+pub use selectors::Selectors;
