@@ -1,6 +1,6 @@
 //! What the reading of a text answers, in words.
 
-use jx_base::{OutOfMemory, Text};
+use jx_base::{OutOfMemory, Plan, Template, Text};
 use std::alloc::Global;
 use system_text::{PlanError, PlanFault, read_system};
 
@@ -34,4 +34,25 @@ pub fn answer(alloc: Global, text: &[u8]) -> Result<String, OutOfMemory> {
         Err(PlanError::Bad(fault)) => said_fault(alloc, &fault),
         Err(PlanError::OutOfMemory) => String::from_str(alloc, "out of memory"),
     }
+}
+
+fn shown_template(alloc: Global, template: &Template) -> Result<String, OutOfMemory> {
+    let name = said(alloc, "", &template.name)?;
+    let classes = template.classes.as_slice();
+    let (main, heap, fuel, boot) = (template.main, template.heap, template.fuel, template.boot);
+    format!(in alloc; " | {name} {main} {heap} {fuel} {boot} {classes:?}")
+}
+
+/// A plan: its granules and the journal's words, its classes, and of each template the name, the
+/// main class, heap, fuel, boot and the classes.
+pub fn shown(alloc: Global, plan: &Plan) -> Result<String, OutOfMemory> {
+    let mut shown = format!(in alloc; "{} {} |", plan.granules, plan.journal)?;
+    for class in plan.classes.as_slice() {
+        shown.push(' ')?;
+        shown.push_str(class.as_str())?;
+    }
+    for template in plan.templates.as_slice() {
+        shown.push_str(shown_template(alloc, template)?.as_str())?;
+    }
+    Ok(shown)
 }

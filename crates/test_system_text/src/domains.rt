@@ -20,116 +20,268 @@ pub fn push_domain(text: &mut String, values: [&str; 6]) -> Result<(), OutOfMemo
     Ok(())
 }
 
-// The answer to a description of one domain of these values, with this line at its end.
-fn answer_to(alloc: Global, values: [&str; 6], line: &str) -> Result<String, OutOfMemory> {
-    let mut text = String::from_str(alloc, "granules = 1\n")?;
+// The answer to a description of that front, of a domain of these values, and of this line.
+fn answer_to(
+    alloc: Global,
+    front: &str,
+    values: [&str; 6],
+    line: &str,
+) -> Result<String, OutOfMemory> {
+    let mut text = String::from_str(alloc, front)?;
     push_domain(&mut text, values)?;
     text.push_str(line)?;
     answer(alloc, text.as_bytes())
 }
 
-#[test]
-fn names_have_their_forms(rt: HostRuntime) -> Result<(), Fail> {
-    let alloc = rt.alloc();
-    for (name, wanted) in [
-        ("", "missing domain[0].name"),
-        ("1", "kind domain[0].name"),
-        ("''", "range domain[0].name"),
-        ("'a b'", "range domain[0].name"),
-        ("'!~'", "plan"),
-        ("\"\\u007f\"", "range domain[0].name"),
-        ("'\u{e9}'", "range domain[0].name"),
-    ] {
-        let values = [name, "['A']", "'A'", "16", "0", ""];
-        assert_eq!(rt; answer_to(alloc, values, "")?.as_str(), wanted, "{name}");
-    }
-    Ok(())
-}
+// The values of the last domain, what stands behind them, and the answer.
+type Case = ([&'static str; 6], &'static str, &'static str);
+
+const FIRST: &str = "granules = 1\n";
+
+static FIRST_DOMAINS: [Case; 46] = [
+    // names
+    (
+        ["", "['A']", "'A'", "16", "0", ""],
+        "",
+        "missing domain[0].name",
+    ),
+    (
+        ["1", "['A']", "'A'", "16", "0", ""],
+        "",
+        "kind domain[0].name",
+    ),
+    (
+        ["''", "['A']", "'A'", "16", "0", ""],
+        "",
+        "range domain[0].name",
+    ),
+    (
+        ["'a b'", "['A']", "'A'", "16", "0", ""],
+        "",
+        "range domain[0].name",
+    ),
+    (["'!~'", "['A']", "'A'", "16", "0", ""], "", "plan"),
+    (
+        ["\"\\u007f\"", "['A']", "'A'", "16", "0", ""],
+        "",
+        "range domain[0].name",
+    ),
+    (
+        ["'\u{e9}'", "['A']", "'A'", "16", "0", ""],
+        "",
+        "range domain[0].name",
+    ),
+    // classes, and the main one
+    (
+        ["'a'", "", "'A'", "16", "0", ""],
+        "",
+        "missing domain[0].classes",
+    ),
+    (
+        ["'a'", "'A'", "'A'", "16", "0", ""],
+        "",
+        "kind domain[0].classes",
+    ),
+    (
+        ["'a'", "[1]", "'A'", "16", "0", ""],
+        "",
+        "kind domain[0].classes",
+    ),
+    (
+        ["'a'", "['A', 1]", "'A'", "16", "0", ""],
+        "",
+        "kind domain[0].classes",
+    ),
+    (
+        ["'a'", "[]", "'A'", "16", "0", ""],
+        "",
+        "range domain[0].classes",
+    ),
+    (
+        ["'a'", "['java/A']", "'java/A'", "16", "0", ""],
+        "",
+        "range domain[0].classes",
+    ),
+    (
+        ["'a'", "['A', '']", "'A'", "16", "0", ""],
+        "",
+        "range domain[0].classes",
+    ),
+    (
+        ["'a'", "['/A', '/A']", "'/A'", "16", "0", ""],
+        "",
+        "range domain[0].classes",
+    ),
+    (["'a'", "['A', 'A']", "'A'", "16", "0", ""], "", "twice A"),
+    (
+        ["'a'", "['A', 'B', 'B', 'A']", "'A'", "16", "0", ""],
+        "",
+        "twice B",
+    ),
+    (["'a'", "['A', 'B']", "'B'", "16", "0", ""], "", "plan"),
+    (
+        ["'a'", "['A']", "", "16", "0", ""],
+        "",
+        "missing domain[0].main",
+    ),
+    (
+        ["'a'", "['A']", "1", "16", "0", ""],
+        "",
+        "kind domain[0].main",
+    ),
+    (
+        ["'a'", "['A']", "'B'", "16", "0", ""],
+        "",
+        "range domain[0].main",
+    ),
+    (
+        ["'a'", "", "", "16", "0", ""],
+        "",
+        "missing domain[0].classes",
+    ),
+    // sizes
+    (
+        ["'a'", "['A']", "'A'", "", "0", ""],
+        "",
+        "missing domain[0].heap",
+    ),
+    (
+        ["'a'", "['A']", "'A'", "true", "0", ""],
+        "",
+        "kind domain[0].heap",
+    ),
+    (
+        ["'a'", "['A']", "'A'", "16.0", "0", ""],
+        "",
+        "kind domain[0].heap",
+    ),
+    (
+        ["'a'", "['A']", "'A'", "15", "0", ""],
+        "",
+        "range domain[0].heap",
+    ),
+    (["'a'", "['A']", "'A'", "131072", "0", ""], "", "plan"),
+    (
+        ["'a'", "['A']", "'A'", "131073", "0", ""],
+        "",
+        "range domain[0].heap",
+    ),
+    (
+        ["'a'", "['A']", "'A'", "16", "", ""],
+        "",
+        "missing domain[0].fuel",
+    ),
+    (
+        ["'a'", "['A']", "'A'", "16", "'0'", ""],
+        "",
+        "kind domain[0].fuel",
+    ),
+    (
+        ["'a'", "['A']", "'A'", "16", "-1", ""],
+        "",
+        "range domain[0].fuel",
+    ),
+    (["'a'", "['A']", "'A'", "16", "100000000", ""], "", "plan"),
+    (
+        ["'a'", "['A']", "'A'", "16", "100000001", ""],
+        "",
+        "range domain[0].fuel",
+    ),
+    (
+        ["'a'", "['A']", "'A'", "16", "0", "1"],
+        "",
+        "kind domain[0].boot",
+    ),
+    (["'a'", "['A']", "'A'", "16", "0", "true"], "", "plan"),
+    (["'a'", "['A']", "'A'", "16", "0", "false"], "", "plan"),
+    (
+        ["'a'", "['A']", "'A'", "", "", ""],
+        "",
+        "missing domain[0].heap",
+    ),
+    (
+        ["'a'", "['A']", "'A'", "15", "", ""],
+        "",
+        "range domain[0].heap",
+    ),
+    (
+        ["'a'", "['A']", "'A'", "16", "-1", "1"],
+        "",
+        "range domain[0].fuel",
+    ),
+    // other keys
+    (
+        ["'a'", "['A']", "'A'", "16", "0", ""],
+        "size = 1",
+        "unknown domain[0].size",
+    ),
+    (
+        ["'a'", "['A']", "'A'", "16", "0", ""],
+        "z = 1\nb.c = 1",
+        "unknown domain[0].b",
+    ),
+    (
+        ["'a'", "['A']", "'A'", "16", "0", ""],
+        "\"\\U0001F600\" = 1",
+        "unknown domain[0].##",
+    ),
+    (
+        ["'a'", "['A']", "'A'", "16", "0", "1"],
+        "size = 1",
+        "kind domain[0].boot",
+    ),
+    (
+        ["'a'", "['A']", "'A'", "16", "0", ""],
+        "heap = 17",
+        "not toml",
+    ),
+    (
+        ["'a'", "['A']", "'A'", "16", "0", ""],
+        "[other]",
+        "unknown other",
+    ),
+    (
+        ["'a'", "['A']", "'A'", "16", "0", ""],
+        "size = 1\n[other]",
+        "unknown other",
+    ),
+];
+
+// The domain `a`, whose key `size` is unknown.
+const LATER: &str =
+    "granules = 1\n[[domain]]\nname = 'a'\nclasses = ['A']\nmain = 'A'\nheap = 16\nfuel = 0\nsize = 1\n";
+
+static LATER_DOMAINS: [Case; 5] = [
+    (["'a'", "['B']", "'B'", "16", "0", ""], "", "twice a"),
+    (
+        ["'b'", "['B']", "'B'", "16", "0", ""],
+        "",
+        "unknown domain[0].size",
+    ),
+    (
+        ["'b'", "['B']", "'B'", "", "0", ""],
+        "",
+        "missing domain[1].heap",
+    ),
+    (["'a'", "['B']", "'B'", "", "0", ""], "", "twice a"),
+    (
+        ["'b'", "['B']", "'B'", "16", "-1", ""],
+        "",
+        "range domain[1].fuel",
+    ),
+];
 
 #[test]
-fn classes_have_their_forms(rt: HostRuntime) -> Result<(), Fail> {
+fn domains_are_read_or_have_these_first_faults(rt: HostRuntime) -> Result<(), Fail> {
     let alloc = rt.alloc();
-    for (classes, main, wanted) in [
-        ("", "'A'", "missing domain[0].classes"),
-        ("'A'", "'A'", "kind domain[0].classes"),
-        ("[1]", "'A'", "kind domain[0].classes"),
-        ("['A', 1]", "'A'", "kind domain[0].classes"),
-        ("[]", "'A'", "range domain[0].classes"),
-        ("['java/A']", "'java/A'", "range domain[0].classes"),
-        ("['A', '']", "'A'", "range domain[0].classes"),
-        ("['/A', '/A']", "'/A'", "range domain[0].classes"),
-        ("['A', 'A']", "'A'", "twice A"),
-        ("['A', 'B', 'B', 'A']", "'A'", "twice B"),
-        ("['A', 'B']", "'B'", "plan"),
-        ("['A']", "", "missing domain[0].main"),
-        ("['A']", "1", "kind domain[0].main"),
-        ("['A']", "'B'", "range domain[0].main"),
-        ("", "", "missing domain[0].classes"),
+    for (front, cases) in [
+        (FIRST, FIRST_DOMAINS.as_slice()),
+        (LATER, LATER_DOMAINS.as_slice()),
     ] {
-        let values = ["'a'", classes, main, "16", "0", ""];
-        assert_eq!(rt;
-            answer_to(alloc, values, "")?.as_str(),
-            wanted,
-            "{classes} {main}"
-        );
+        for (values, line, wanted) in cases {
+            let answer = answer_to(alloc, front, *values, line)?;
+            assert_eq!(rt; answer.as_str(), *wanted, "{values:?} {line}");
+        }
     }
-    Ok(())
-}
-
-#[test]
-fn sizes_have_their_ranges(rt: HostRuntime) -> Result<(), Fail> {
-    let alloc = rt.alloc();
-    for (heap, fuel, boot, wanted) in [
-        ("", "0", "", "missing domain[0].heap"),
-        ("true", "0", "", "kind domain[0].heap"),
-        ("16.0", "0", "", "kind domain[0].heap"),
-        ("15", "0", "", "range domain[0].heap"),
-        ("131072", "0", "", "plan"),
-        ("131073", "0", "", "range domain[0].heap"),
-        ("16", "", "", "missing domain[0].fuel"),
-        ("16", "'0'", "", "kind domain[0].fuel"),
-        ("16", "-1", "", "range domain[0].fuel"),
-        ("16", "100000000", "", "plan"),
-        ("16", "100000001", "", "range domain[0].fuel"),
-        ("16", "0", "1", "kind domain[0].boot"),
-        ("16", "0", "true", "plan"),
-        ("16", "0", "false", "plan"),
-        ("", "", "", "missing domain[0].heap"),
-        ("15", "", "", "range domain[0].heap"),
-        ("16", "-1", "1", "range domain[0].fuel"),
-    ] {
-        let values = ["'a'", "['A']", "'A'", heap, fuel, boot];
-        assert_eq!(rt;
-            answer_to(alloc, values, "")?.as_str(),
-            wanted,
-            "{heap} {fuel} {boot}"
-        );
-    }
-    Ok(())
-}
-
-#[test]
-fn other_keys_are_unknown(rt: HostRuntime) -> Result<(), Fail> {
-    let alloc = rt.alloc();
-    for (boot, line, wanted) in [
-        ("", "size = 1", "unknown domain[0].size"),
-        ("", "z = 1\nb.c = 1", "unknown domain[0].b"),
-        ("", "\"\\U0001F600\" = 1", "unknown domain[0].##"),
-        ("1", "size = 1", "kind domain[0].boot"),
-        ("", "heap = 17", "not toml"),
-        ("", "[other]", "unknown other"),
-        ("", "size = 1\n[other]", "unknown other"),
-    ] {
-        let values = ["'a'", "['A']", "'A'", "16", "0", boot];
-        assert_eq!(rt; answer_to(alloc, values, line)?.as_str(), wanted, "{line}");
-    }
-    let inline =
-        "granules = 1\ndomain = [{ name = 'a', classes = ['A'], main = 'A', heap = 16, fuel = 0 }]";
-    assert_eq!(rt; answer(alloc, inline.as_bytes())?.as_str(), "plan");
-    let dotted = "granules = 1\ndomain = [{ name.first = 'a' }]";
-    assert_eq!(rt;
-        answer(alloc, dotted.as_bytes())?.as_str(),
-        "kind domain[0].name"
-    );
     Ok(())
 }
