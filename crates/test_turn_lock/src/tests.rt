@@ -1,4 +1,4 @@
-use super::*;
+use crate::printers::two_printers;
 use jx_base::{Act, Entry, Reply};
 use std::test::*;
 
