@@ -1,14 +1,14 @@
 //! The Code of a method.
 
-use crate::parts::{Case, class_of, first_fault, push_hex, try_each};
+use crate::parts::{Case, class_of, push_hex};
 use jx_base::{ClassKind, OutOfMemory};
 use std::alloc::Global;
-use std::test::Fail;
 
-// What stands between the constants and the one method, which is at 50.
-const ONE_METHOD: &str = "0021 0002 0002 0000 0000 0001";
+/// What stands between the constants and the one method, which is at 50.
+pub const ONE_METHOD: &str = "0021 0002 0002 0000 0000 0001";
 
-static CODES: [Case; 26] = [
+/// The one method, and what stands behind it.
+pub static CODES: [Case; 26] = [
     (
         "a Code behind another attribute",
         "0009 0003 0004 0002 0003 00000001 ff 0005 0000000d 0001 0001 00000001 b1 0000 0000 0000",
@@ -141,9 +141,21 @@ static CODES: [Case; 26] = [
     ),
 ];
 
-// A class with a method of so many bytes of code, whose attribute's length and code length are
-// written in hexadecimal.
-fn long_code(alloc: Global, attribute: &str, length: &str, n: u32) -> Result<Vec<u8>, OutOfMemory> {
+/// Lengths of a Code and of its code, in hexadecimal, how many bytes the code has, and the fault
+/// that is found.
+pub static LONG_CODES: [(&str, &str, u32, Option<(u32, ClassKind)>); 2] = [
+    ("0001000b", "0000ffff", 65535, None),
+    ("0001000c", "00010000", 65536, Some((58, ClassKind::Code))),
+];
+
+/// A class with a method of so many bytes of code, whose attribute's length and code length are
+/// written in hexadecimal.
+pub fn long_code(
+    alloc: Global,
+    attribute: &str,
+    length: &str,
+    n: u32,
+) -> Result<Vec<u8>, OutOfMemory> {
     let front = "0021 0002 0002 0000 0000 0001 0009 0003 0004 0001 0005";
     let mut bytes = class_of(alloc, ["0007", "", front])?;
     push_hex(&mut bytes, attribute)?;
@@ -154,23 +166,4 @@ fn long_code(alloc: Global, attribute: &str, length: &str, n: u32) -> Result<Vec
     }
     push_hex(&mut bytes, "0000 0000 0000")?;
     Ok(bytes)
-}
-
-#[test]
-fn codes_are_read_or_have_these_first_faults(rt: HostRuntime) -> Result<(), Fail> {
-    try_each(&rt, rt.alloc(), ONE_METHOD, &CODES)
-}
-
-#[test]
-fn longest_code_is_read(rt: HostRuntime) -> Result<(), Fail> {
-    let alloc = rt.alloc();
-    let most = long_code(alloc, "0001000b", "0000ffff", 65535)?;
-    assert_eq!(rt; first_fault(alloc, most.as_slice())?, None, "65,535 bytes");
-    let longer = long_code(alloc, "0001000c", "00010000", 65536)?;
-    assert_eq!(rt;
-        first_fault(alloc, longer.as_slice())?,
-        Some((58, ClassKind::Code)),
-        "65,536 bytes"
-    );
-    Ok(())
 }

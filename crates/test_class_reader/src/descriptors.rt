@@ -121,11 +121,10 @@ fn try_each(
     Ok(())
 }
 
-#[test]
-fn descriptors_are_read_or_have_these_first_faults(rt: HostRuntime) -> Result<(), Fail> {
-    let alloc = rt.alloc();
+/// Asserts that each descriptor of a field and of a method is read, or has its first fault.
+pub fn try_descriptors(rt: &impl Abort, alloc: Global) -> Result<(), Fail> {
     let field = "0021 0002 0002 0000 0001 0002 0003 0007 0000 0000 0000";
-    try_each(&rt, alloc, &FIELDS, field, 10)?;
+    try_each(rt, alloc, &FIELDS, field, 10)?;
     let method = "0021 0002 0002 0000 0000 0001 0401 0003 0007 0000 0000";
-    try_each(&rt, alloc, &METHODS, method, 12)
+    try_each(rt, alloc, &METHODS, method, 12)
 }

@@ -60,37 +60,19 @@ fn patched(alloc: Global, place: usize, hex: &str) -> Result<Vec<u8>, OutOfMemor
 }
 
 #[test]
-fn heads_have_these_first_faults(rt: HostRuntime) -> Result<(), Fail> {
+fn first_class_has_these_first_faults_when_it_is_changed(rt: HostRuntime) -> Result<(), Fail> {
     let alloc = rt.alloc();
     for (name, place, hex, want) in &PATCHES {
         let bytes = patched(alloc, *place, hex)?;
         assert_eq!(rt; first_fault(alloc, bytes.as_slice())?, *want, "{name}");
     }
-    Ok(())
-}
-
-#[test]
-fn each_front_is_truncated(rt: HostRuntime) -> Result<(), Fail> {
-    let alloc = rt.alloc();
     for k in 0..191 {
-        let want = Some((k, ClassKind::Truncated));
-        assert_eq!(rt;
-            first_fault(alloc, &FIRST_CLASS[..k as usize])?,
-            want,
-            "{k} bytes"
-        );
+        let cut = first_fault(alloc, &FIRST_CLASS[..k as usize])?;
+        assert_eq!(rt; cut, Some((k, ClassKind::Truncated)), "{k} bytes");
     }
-    Ok(())
-}
-
-#[test]
-fn byte_more_is_trailing(rt: HostRuntime) -> Result<(), Fail> {
-    let alloc = rt.alloc();
-    let mut bytes = Vec::from_slice(alloc, &FIRST_CLASS)?;
-    bytes.push(0)?;
-    assert_eq!(rt;
-        first_fault(alloc, bytes.as_slice())?,
-        Some((191, ClassKind::Trailing))
-    );
+    let mut longer = Vec::from_slice(alloc, &FIRST_CLASS)?;
+    longer.push(0)?;
+    let fault = first_fault(alloc, longer.as_slice())?;
+    assert_eq!(rt; fault, Some((191, ClassKind::Trailing)));
     Ok(())
 }

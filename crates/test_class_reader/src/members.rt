@@ -1,6 +1,9 @@
 //! Classes with their interfaces and attributes, fields, and methods apart from their code.
 
-use crate::parts::{Case, try_class, try_each};
+use crate::codes::{CODES, LONG_CODES, ONE_METHOD, long_code};
+use crate::constants::CONSTANTS;
+use crate::descriptors::try_descriptors;
+use crate::parts::{Case, PartsCase, first_fault, try_each, try_parts};
 use jx_base::ClassKind;
 use std::test::Fail;
 
@@ -234,7 +237,7 @@ static METHODS: [Case; 18] = [
 ];
 
 // Each with its constant count, the constants behind the six, and what stands behind them.
-static WITH_MORE: [(&str, [&str; 3], Option<(u32, ClassKind)>); 6] = [
+static WITH_MORE: [PartsCase; 6] = [
     (
         "a Long at the last index is cut off first",
         ["0008", "05 00000000000000", ""],
@@ -288,13 +291,17 @@ static WITH_MORE: [(&str, [&str; 3], Option<(u32, ClassKind)>); 6] = [
 ];
 
 #[test]
-fn members_are_read_or_have_these_first_faults(rt: HostRuntime) -> Result<(), Fail> {
+fn class_files_are_read_or_have_these_first_faults(rt: HostRuntime) -> Result<(), Fail> {
     let alloc = rt.alloc();
+    try_parts(&rt, alloc, &CONSTANTS)?;
+    try_parts(&rt, alloc, &WITH_MORE)?;
     try_each(&rt, alloc, "", &CLASSES)?;
     try_each(&rt, alloc, "", &FIELDS)?;
     try_each(&rt, alloc, "", &METHODS)?;
-    for (name, parts, want) in &WITH_MORE {
-        try_class(&rt, alloc, name, *parts, *want)?;
+    try_each(&rt, alloc, ONE_METHOD, &CODES)?;
+    for (attribute, length, n, want) in &LONG_CODES {
+        let bytes = long_code(alloc, attribute, length, *n)?;
+        assert_eq!(rt; first_fault(alloc, bytes.as_slice())?, *want, "{n} bytes");
     }
-    Ok(())
+    try_descriptors(&rt, alloc)
 }

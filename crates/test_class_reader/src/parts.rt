@@ -9,6 +9,10 @@ use std::test::Fail;
 /// A name, what stands behind the six constants, and the fault that is found.
 pub type Case = (&'static str, &'static str, Option<(u32, ClassKind)>);
 
+/// A name, the constant count, the constants behind the six, what stands behind them, and the fault
+/// that is found.
+pub type PartsCase = (&'static str, [&'static str; 3], Option<(u32, ClassKind)>);
+
 /// What stands behind the constants of a class of no members: 14 bytes.
 pub const NO_MEMBERS: &str = "0021 0002 0002 0000 0000 0000 0000";
 
@@ -77,16 +81,12 @@ pub fn first_fault(alloc: Global, bytes: &[u8]) -> Result<Option<(u32, ClassKind
     }
 }
 
-/// Asserts that of the class file of those parts just that fault is found.
-pub fn try_class(
-    rt: &impl Abort,
-    alloc: Global,
-    name: &str,
-    parts: [&str; 3],
-    want: Option<(u32, ClassKind)>,
-) -> Result<(), Fail> {
-    let bytes = class_of(alloc, parts)?;
-    assert_eq!(rt; first_fault(alloc, bytes.as_slice())?, want, "{name}");
+/// Asserts that of the class file of each case's parts just its fault is found.
+pub fn try_parts(rt: &impl Abort, alloc: Global, cases: &[PartsCase]) -> Result<(), Fail> {
+    for (name, parts, want) in cases {
+        let bytes = class_of(alloc, *parts)?;
+        assert_eq!(rt; first_fault(alloc, bytes.as_slice())?, *want, "{name}");
+    }
     Ok(())
 }
 

@@ -62,15 +62,13 @@ fn try_method(
     Ok(())
 }
 
-#[test]
-fn first_class_is_read(rt: HostRuntime) -> Result<(), Fail> {
-    let alloc = rt.alloc();
+fn try_first_class(rt: &impl Abort, alloc: Global) -> Result<(), Fail> {
     let file = read(alloc, &FIRST_CLASS)?;
-    try_numbers(&rt, &file, [0, 52, 16, 33, 2, 4, 0, 0, 1]);
+    try_numbers(rt, &file, [0, 52, 16, 33, 2, 4, 0, 0, 1]);
     let named = (9, "main", "([Ljava/lang/String;)V");
     let code = [18, 9, 184, 0, 15, 177];
     try_method(
-        &rt,
+        rt,
         alloc,
         file.methods.as_slice().first(),
         named,
@@ -79,15 +77,13 @@ fn first_class_is_read(rt: HostRuntime) -> Result<(), Fail> {
     )
 }
 
-#[test]
-fn javac_class_is_read(rt: HostRuntime) -> Result<(), Fail> {
-    let alloc = rt.alloc();
+fn try_javac_class(rt: &impl Abort, alloc: Global) -> Result<(), Fail> {
     let file = read(alloc, &JAVAC_CLASS)?;
-    try_numbers(&rt, &file, [0, 52, 23, 33, 15, 2, 0, 0, 2]);
+    try_numbers(rt, &file, [0, 52, 23, 33, 15, 2, 0, 0, 2]);
     let methods = file.methods.as_slice();
     let constructor = [42, 183, 0, 1, 177];
     try_method(
-        &rt,
+        rt,
         alloc,
         methods.first(),
         (1, "<init>", "()V"),
@@ -96,7 +92,7 @@ fn javac_class_is_read(rt: HostRuntime) -> Result<(), Fail> {
     )?;
     let named = (9, "main", "([Ljava/lang/String;)V");
     let code = [18, 7, 184, 0, 9, 177];
-    try_method(&rt, alloc, methods.get(1), named, [1, 1, 291], &code)
+    try_method(rt, alloc, methods.get(1), named, [1, 1, 291], &code)
 }
 
 // A constant by its tag, or 0, and its numbers, or the length of its text.
@@ -147,8 +143,10 @@ static CONSTANTS: [(u8, i64, u16); 22] = [
 ];
 
 #[test]
-fn constants_have_their_values(rt: HostRuntime) -> Result<(), Fail> {
+fn class_files_have_their_members_codes_and_constants(rt: HostRuntime) -> Result<(), Fail> {
     let alloc = rt.alloc();
+    try_first_class(&rt, alloc)?;
+    try_javac_class(&rt, alloc)?;
     let bytes = class_of(alloc, ["0016", MORE, NO_MEMBERS])?;
     let file = read(alloc, bytes.as_slice())?;
     let constants = file.constants.as_slice();
