@@ -1,5 +1,5 @@
 -- Names in a class file, and what its instructions use its constants as.
-use Rattle.std.specs.Prelude.{ℕ, Bool, true, false, not, List, [], ◌∷◌, ◌++◌, Option, Some, None, ◌==◌, map, filter, flat_map, slice_get}
+use Rattle.std.specs.Prelude.{ℕ, true, false, not, List, [], ◌∷◌, ◌++◌, Option, Some, None, ◌==◌, map, filter, flat_map, slice_get}
 use Rattle.std.specs.List.{filter_map}
 use Rattle.jx_base.specs.declared.class_file.ClassFile.{ClassFile}
 use Rattle.jx_base.specs.declared.class_file.Code.{Code}
@@ -8,7 +8,6 @@ use Rattle.jx_base.specs.declared.class_file.Constant.TheVariants as constant
 use Rattle.jx_base.specs.declared.class_file.Instr.{Instr}
 use Rattle.jx_base.specs.declared.class_file.Member.{Member}
 use Rattle.jx_base.specs.declared.program.Selector.{Selector}
-use Rattle.jx_base.specs.declared.row.Invocation.{Invocation}
 use Rattle.jx_base.specs.declared.row.Row.{Row}
 use Rattle.jx_base.specs.declared.row.Row.TheVariants as row
 use Rattle.link_model.specs.declared.uses.Use.{Use}

@@ -15,6 +15,11 @@ pub built_in_length : length built_in_table ≡ built_in_count
 unfolding opened_built_in
 built_in_length = refl
 
+-- they are 27
+pub few_built_in : length built_in_table ≡ 27
+unfolding opened_built_in
+few_built_in = refl
+
 -- whether a class number is that of a built-in class
 in_table : (c : ℕ) → c < length built_in_table → is_built_in c ≡ true
 unfolding is_built_in

@@ -2,3 +2,4 @@ pub mod Positions
 pub mod SelectorKeys
 pub mod Layouts
 pub mod SelectorLists
+pub mod SourceLists

@@ -3,3 +3,4 @@ pub mod KeysAlike
 pub mod Keys
 pub mod Parts
 pub mod Fields
+pub mod Methods

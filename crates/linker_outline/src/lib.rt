@@ -5,12 +5,14 @@
 mod classes;
 mod fields;
 mod method_selectors;
+mod methods;
 mod names;
 mod parts;
 mod selectors;
 
 pub use classes::{array_class, class_of_file};
 pub use method_selectors::all_selectors;
+pub use methods::all_methods;
 pub use names::{Names, Units};
 pub use parts::Parts;
 pub use selectors::Selectors;

@@ -1,5 +1,5 @@
 //! The selectors of a linked system's methods.
-ghost use Rattle.std.specs.Prelude.{◌≡◌, IfOk, OnOk, map};
+ghost use Rattle.std.specs.Prelude.{◌≡◌, ◌<◌, ◌^◌, IfOk, OnOk, length, map};
 ghost use Rattle.jx_base.specs.Basics.{all_added};
 ghost use Rattle.program_model.specs.Lookup.{same_selector};
 ghost use Rattle.link_model.specs.ClassFiles.{member_selector};
@@ -9,7 +9,9 @@ ghost use Rattle.program_model.specs.BuiltIn.{built_in_table};
 use crate::selectors::Selectors;
 use jx_base::{Class, Member, OutOfMemory, Selector};
 use linker_names::ReadClass;
-use std::alloc::Global;
+use std::alloc::{AllocError, Global};
+
+const MOST: usize = u32::MAX as usize;
 
 // Adds the selectors of the methods that a class declares.
 #[tactic(auto, unfolding(jx_base::specs::Basics::all_added))]
@@ -57,7 +59,9 @@ pub fn all_selectors(
     files: &[ReadClass],
 ) -> Result<Selectors, OutOfMemory>
     requires { built_in.now ≡ built_in_table }
-    ensures { IfOk result (λ selectors. selectors ≡ linked_selectors (sources files.now)) }
+    ensures selectors { IfOk result (λ selectors.
+        selectors ≡ linked_selectors (sources files.now)) }
+    ensures small { IfOk result (λ selectors. length selectors < 2 ^ 32) }
 {
     let mut selectors = Selectors::new(alloc);
     for class in built_in {
@@ -65,6 +69,10 @@ pub fn all_selectors(
     }
     for file in files {
         add_of_file(alloc, &mut selectors, file)?;
+    }
+    // No memory holds so many.
+    if selectors.len() > MOST {
+        return Err(AllocError);
     }
     Ok(selectors)
 }

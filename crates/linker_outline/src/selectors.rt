@@ -1,5 +1,5 @@
 //! Selectors, each once.
-ghost use Rattle.std.specs.Prelude.{◌≡◌, ◌++◌, [], ℕ, List, OnOk, position};
+ghost use Rattle.std.specs.Prelude.{◌≡◌, ◌++◌, ◌<◌, [], ℕ, List, IfSome, OnOk, length, position};
 ghost use Rattle.std.specs.Hash as fed;
 ghost use Rattle.jx_base.proofs.BasicLaws.{ap2};
 ghost use Rattle.linker_outline.specs.KeysAlike.{alike_with, first_alike, same_texts, second_alike};
@@ -68,9 +68,17 @@ impl Selectors {
         Ok(())
     }
 
+    /// How many there are.
+    pub fn len(&self) -> usize
+        ensures { result ≡ length self.now }
+    {
+        self.keys.len()
+    }
+
     /// The place of a selector.
     pub fn find(&self, member: NameAndType<'_>) -> Option<usize>
-        ensures { result ≡ position (same_selector (selector_of member.entry)) self.now }
+        ensures place { result ≡ position (same_selector (selector_of member.entry)) self.now }
+        ensures within { IfSome result (λ place. place < length self.now) }
     {
         self.keys.get_index_of(member)
     }

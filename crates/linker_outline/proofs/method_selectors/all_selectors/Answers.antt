@@ -24,8 +24,8 @@ loop-file-preserved c =
     ∙ ap (λ xs. all_added same_selector xs (file_selectors c.file-item.result)) c.loop-file.invariant
     ∙ sym (added_flat same_selector file_selectors [] (flat_map class_selectors c.args.built_in.now) c.args.files.now c.loop-file.file-index c.file-item.result (omega arith) c.file-item.is)
 
-pub returns : goal.returns
-returns c =
+pub returns-clause-selectors : goal.returns-clause-selectors
+returns-clause-selectors c =
     c.loop-file.invariant
     ∙ ap (λ fs. all_added same_selector [] (flat_map class_selectors c.args.built_in.now ++ flat_map file_selectors fs)) (take_all c.loop-file.file-index c.args.files.now (omega arith))
     ∙ ap (λ ks. all_added same_selector [] (flat_map class_selectors ks ++ flat_map file_selectors c.args.files.now)) c.requires
