@@ -1,0 +1,4 @@
+pub mod Depths
+pub mod Groups
+pub mod Keys
+pub mod Rows

@@ -1,0 +1,16 @@
+//! Instructions on numbers, the stack, locals, branches and switches (JVMS 6.5).
+#![tactic(auto)]
+
+mod arithmetic;
+mod branches;
+mod group;
+mod locals;
+mod moves;
+mod numbers;
+mod operands;
+mod stack;
+mod step;
+mod switches;
+mod values;
+
+pub use step::{NumStep, step_num};
