@@ -6,7 +6,8 @@ use Rattle.machine_model.specs.NumericRows.{NumericOutcome as row}
 use Rattle.interp_num.specs.declared.step.NumStep.{NumStep}
 use Rattle.interp_num.specs.declared.step.NumStep.TheVariants as step
 
--- the answer and the frame that is left are the row's outcome; a raised class leaves the locals, and nothing on the stack
+-- the answer and the frame that is left are the row's outcome: where a class is raised the locals are as before and the stack
+-- is empty, after bad code the locals are as before, and of a row that is none on numbers so is the frame
 abbrev pub Gives : NumStep → Frame → Frame → NumericOutcome → Type 0
 Gives step.Next old new r = r ≡ row.Next new.locals new.stack.values
 Gives (step.Jump to) old new r = r ≡ row.Jump to new.locals new.stack.values

@@ -28,7 +28,8 @@ const ARITHMETIC_EXCEPTION: ClassId = ClassId(6);
 pub(crate) fn operate_ints(frame: &mut Frame, most: u32, operator: Operator) -> Option<NumStep>
     requires { IsWithin most frame.old }
     ensures row { Runs result frame.old.locals frame.new
-        (on_ints most (λ a b. value.Int (operation_result w32 operator a b)) frame.old.locals frame.old.stack.values) }
+        (on_ints most (λ a b. value.Int (operation_result w32 operator a b))
+        frame.old.locals frame.old.stack.values) }
     ensures place { IsSameCall frame.old frame.new }
 {
     let b = pop_int(&mut frame.stack)?;
@@ -41,7 +42,8 @@ pub(crate) fn operate_ints(frame: &mut Frame, most: u32, operator: Operator) -> 
 pub(crate) fn operate_longs(frame: &mut Frame, most: u32, operator: Operator) -> Option<NumStep>
     requires { IsWithin most frame.old }
     ensures row { Runs result frame.old.locals frame.new
-        (on_longs most (λ a b. value.Long (operation_result w64 operator a b)) frame.old.locals frame.old.stack.values) }
+        (on_longs most (λ a b. value.Long (operation_result w64 operator a b))
+        frame.old.locals frame.old.stack.values) }
     ensures place { IsSameCall frame.old frame.new }
 {
     let b = pop_long(&mut frame.stack)?;
@@ -96,7 +98,8 @@ pub(crate) fn divide_longs(frame: &mut Frame, most: u32, division: Division) -> 
 pub(crate) fn shift_int(frame: &mut Frame, most: u32, shift: Shift) -> Option<NumStep>
     requires { IsWithin most frame.old }
     ensures row { Runs result frame.old.locals frame.new
-        (on_ints most (λ a count. value.Int (int_shift_result shift a count)) frame.old.locals frame.old.stack.values) }
+        (on_ints most (λ a count. value.Int (int_shift_result shift a count))
+        frame.old.locals frame.old.stack.values) }
     ensures place { IsSameCall frame.old frame.new }
 {
     let count = pop_int(&mut frame.stack)?;

@@ -1,6 +1,7 @@
 //! Branches by ints and references (JVMS 2.11.7).
 ghost use Rattle.std.specs.Prelude.{◌≡◌};
-ghost use Rattle.machine_model.specs.NumericRows.{if_zero_row, if_ints_row, if_same_row, if_null_row};
+ghost use Rattle.machine_model.specs.NumericRows.{if_zero_row, if_ints_row};
+ghost use Rattle.machine_model.specs.NumericRows.{if_same_row, if_null_row};
 ghost use Rattle.interp_num.specs.Steps.{Runs, IsSameCall};
 
 use crate::numbers::is_met;

@@ -1,5 +1,6 @@
 //! The values that a form of the stack moves together: none, one slot, or two (JVMS 6.5, dup2).
-ghost use Rattle.std.specs.Prelude.{◌≡◌, ◌+◌, ◌*◌, ◌≤◌, ◌∷◌, [], ◌++◌, None, Some, IfSome, MatchOption, drop, length};
+ghost use Rattle.std.specs.Prelude.{◌≡◌, ◌+◌, ◌*◌, ◌≤◌, [], ◌∷◌, ◌++◌, drop, length};
+ghost use Rattle.std.specs.Prelude.{None, Some, IfSome, MatchOption};
 ghost use Rattle.machine_model.specs.NumericRows.{depth_of, group_of};
 ghost use Rattle.interp_num.specs.Groups.{values_of};
 ghost use Rattle.jx_base.specs.declared.row.Slots.TheVariants as slots;

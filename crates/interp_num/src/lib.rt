@@ -3,6 +3,7 @@
 
 mod arithmetic;
 mod branches;
+mod depth;
 mod group;
 mod locals;
 mod moves;

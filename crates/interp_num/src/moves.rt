@@ -4,9 +4,10 @@ ghost use Rattle.machine_model.specs.NumericRows.{load_row, store_row};
 ghost use Rattle.machine_model.specs.NumericRows.{discard_row, copy_row, swap_row};
 ghost use Rattle.interp_num.specs.Steps.{Runs, IsSameCall, IsWithin};
 
+use crate::depth::slots_left;
 use crate::group::{pop_group, pop_single, push_copied};
 use crate::locals::{has_place, local_of, set_local};
-use crate::stack::{grow, pop, put, slots_left};
+use crate::stack::{grow, pop, put};
 use crate::step::NumStep;
 use crate::values::as_kind;
 use jx_base::{Frame, Kind, Slots};

@@ -5,6 +5,7 @@ ghost use Rattle.interp_num.specs.Steps.{Ran, Runs, IsSameCall, IsWithin};
 ghost use Rattle.machine_model.specs.NumericRows as Spec;
 ghost use Rattle.machine_model.specs.NumericRows.{depth_of, top, top_int, top_long, top_reference};
 
+use crate::depth::slots_left;
 use crate::step::NumStep;
 use crate::values::{as_reference, slots_of};
 use jx_base::{Frame, OperandStack, Value};
@@ -19,21 +20,6 @@ pub(crate) fn pop(stack: &mut OperandStack) -> Option<Value>
         depth_of stack.old.values ≡ depth_of stack.new.values + Spec.slots_of v) }
 {
     stack.pop()
-}
-
-// How many slots are free of so many.
-pub(crate) fn slots_left(stack: &mut OperandStack, most: u32) -> u32
-    requires depth { depth_of stack.old.values ≤ most }
-    requires room { most ≤ stack.old.room }
-    ensures left { depth_of stack.old.values + result ≡ most }
-    ensures same { stack.new ≡ stack.old }
-{
-    let Some(value) = stack.pop() else {
-        return most;
-    };
-    let left = slots_left(stack, most - slots_of(value));
-    stack.push(value);
-    left
 }
 
 // Takes the int on the top, or another value.

@@ -123,8 +123,8 @@ fn run(system: &System, limits: Limits, frame: &mut Frame, instr: &Instr) -> Opt
     }
 }
 
-/// Runs one instruction on numbers, the stack, locals, branches or switches. Of one that is none of
-/// these the frame stays as it was. After bad code the rest of the stack is open. Takes no memory.
+/// Runs one instruction on numbers, the stack, locals, branches or switches (JVMS 6.5). The caller
+/// sets the pc. After bad code the rest of the stack is open. Takes no memory.
 pub fn step_num(system: &System, frame: &mut Frame, instr: &Instr) -> NumStep
     requires { IsFrameOf system.now frame.old }
     ensures row { Gives result frame.old frame.new (numeric_row system.now
