@@ -1,5 +1,6 @@
 -- From a numeric row to the row of the instruction.
-use Rattle.std.proofs.Common.{◌≡◌, ◌⊎◌, inl, inr, ℕ, refl, Option, Some, None}
+use Rattle.std.proofs.Common.{◌≡◌, ◌↔◌, ◌⊎◌, inl, inr, ℕ, refl, Option, Some, None}
+use Rattle.std.specs.Option.{unwrap_or}
 use Rattle.jx_base.specs.declared.class_file.Instr.{Instr}
 use Rattle.jx_base.specs.declared.program.System.{System}
 use Rattle.jx_base.specs.declared.row.Row.{Row}
@@ -12,7 +13,7 @@ use Rattle.machine_model.specs.NumericRows.{NumericOutcome, Locals, Stack, movin
 use Rattle.machine_model.specs.NumericRows.{NumericOutcome as outcome}
 use Rattle.interp_num.specs.declared.step.NumStep.{NumStep}
 use Rattle.interp_num.specs.declared.step.NumStep.TheVariants as step
-use Rattle.interp_num.specs.Steps.{Runs, MayGive}
+use Rattle.interp_num.specs.Steps.{Runs, MayGive, Gives}
 
 -- nothing beside a row changes its outcome
 or_not_mine : (r : NumericOutcome) → outcome_or r outcome.NotMine ≡ r
@@ -93,5 +94,17 @@ not_mine s c most r i l k (inr (inr (inr (inr (inr (inr (inr (inr (inr (inr (inr
 not_mine s c most r i l k (inr (inr (inr (inr (inr (inr (inr (inr (inr (inr (inr (inr (inr (inr (inr (inr (inl e))))))))))))))))) = rw e refl
 not_mine s c most r i l k (inr (inr (inr (inr (inr (inr (inr (inr (inr (inr (inr (inr (inr (inr (inr (inr (inr (inl e)))))))))))))))))) = rw e refl
 not_mine s c most r i l k (inr (inr (inr (inr (inr (inr (inr (inr (inr (inr (inr (inr (inr (inr (inr (inr (inr (inr e)))))))))))))))))) = rw e refl
+
+-- a row is left to another where the answer says so
+pub answers_not_mine : (x : NumStep) (old new : Frame) (r : NumericOutcome) → Gives x old new r → (x ≡ step.NotMine) ↔ (r ≡ outcome.NotMine)
+answers_not_mine step.Next old new r h = (λ e. cc, λ e. cc)
+answers_not_mine (step.Jump to) old new r h = (λ e. cc, λ e. cc)
+answers_not_mine (step.Raise c) old new r h = let k = h.0 in (λ e. cc, λ e. cc)
+answers_not_mine step.BadCode old new r h = let k = h.0 in (λ e. cc, λ e. cc)
+answers_not_mine step.NotMine old new r h = (λ e. h.0, λ e. refl)
+
+pub gives : (o : Option NumStep) (old new : Frame) (r : NumericOutcome) → MayGive o old new r → Gives (unwrap_or o step.BadCode) old new r
+gives None old new r h = h
+gives (Some x) old new r h = h
 
 pub ruleset rows = (runs, runs_first, runs_second, runs_last)

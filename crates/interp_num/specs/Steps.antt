@@ -1,31 +1,56 @@
 -- What a numeric step answers, and what it leaves of the frame, where its row has that outcome.
-use Rattle.std.specs.Prelude.{◌≡◌, ◌≤◌, ℕ, [], length, Option, Some, None}
+use Rattle.std.specs.Prelude.{◌≡◌, ◌≤◌, ℕ, Bool, true, false, [], length, Option, Some, None}
 use Rattle.jx_base.specs.declared.frame.Frame.{Frame}
+use Rattle.jx_base.specs.declared.row.Row.{Row}
+use Rattle.jx_base.specs.declared.row.Row.TheVariants as row
 use Rattle.machine_model.specs.NumericRows.{NumericOutcome, Locals, depth_of}
-use Rattle.machine_model.specs.NumericRows.{NumericOutcome as row}
+use Rattle.machine_model.specs.NumericRows.{NumericOutcome as outcome}
 use Rattle.interp_num.specs.declared.step.NumStep.{NumStep}
 use Rattle.interp_num.specs.declared.step.NumStep.TheVariants as step
 
 -- the answer and the frame that is left are the row's outcome: where a class is raised the locals are as before and the stack
 -- is empty, after bad code the locals are as before, and of a row that is none on numbers so is the frame
 abbrev pub Gives : NumStep → Frame → Frame → NumericOutcome → Type 0
-Gives step.Next old new r = r ≡ row.Next new.locals new.stack.values
-Gives (step.Jump to) old new r = r ≡ row.Jump to new.locals new.stack.values
-Gives (step.Raise c) old new r = (r ≡ row.Raise c.0) × ((new.locals ≡ old.locals) × (new.stack.values ≡ []))
-Gives step.BadCode old new r = (r ≡ row.BadCode) × (new.locals ≡ old.locals)
-Gives step.NotMine old new r = (r ≡ row.NotMine) × (new ≡ old)
+Gives step.Next old new r = r ≡ outcome.Next new.locals new.stack.values
+Gives (step.Jump to) old new r = r ≡ outcome.Jump to new.locals new.stack.values
+Gives (step.Raise c) old new r = (r ≡ outcome.Raise c.0) × ((new.locals ≡ old.locals) × (new.stack.values ≡ []))
+Gives step.BadCode old new r = (r ≡ outcome.BadCode) × (new.locals ≡ old.locals)
+Gives step.NotMine old new r = (r ≡ outcome.NotMine) × (new ≡ old)
+
+-- whether a row is one on numbers, the stack, locals, branches or switches
+unfoldable pub is_numeric : Row → Bool
+is_numeric row.PushConstant = false
+is_numeric (row.LoadElement _) = false
+is_numeric (row.StoreElement _) = false
+is_numeric (row.Return _) = false
+is_numeric row.ReturnVoid = false
+is_numeric row.GetStatic = false
+is_numeric row.PutStatic = false
+is_numeric row.GetField = false
+is_numeric row.PutField = false
+is_numeric (row.Invoke _) = false
+is_numeric row.New = false
+is_numeric row.NewArray = false
+is_numeric row.NewReferenceArray = false
+is_numeric row.NewMultiArray = false
+is_numeric row.ArrayLength = false
+is_numeric row.Throw = false
+is_numeric row.CheckCast = false
+is_numeric row.InstanceOf = false
+is_numeric row.Missing = false
+is_numeric _ = true
 
 -- a step of a row that is numeric
 abbrev pub Ran : NumStep → Locals → Frame → NumericOutcome → Type 0
-Ran step.Next locals f r = r ≡ row.Next f.locals f.stack.values
-Ran (step.Jump to) locals f r = r ≡ row.Jump to f.locals f.stack.values
-Ran (step.Raise c) locals f r = (r ≡ row.Raise c.0) × ((f.locals ≡ locals) × (f.stack.values ≡ []))
+Ran step.Next locals f r = r ≡ outcome.Next f.locals f.stack.values
+Ran (step.Jump to) locals f r = r ≡ outcome.Jump to f.locals f.stack.values
+Ran (step.Raise c) locals f r = (r ≡ outcome.Raise c.0) × ((f.locals ≡ locals) × (f.stack.values ≡ []))
 Ran step.BadCode locals f r = ⊥
 Ran step.NotMine locals f r = ⊥
 
 -- the same, where none stands for bad code; the locals are those before the step
 abbrev pub Runs : Option NumStep → Locals → Frame → NumericOutcome → Type 0
-Runs None locals f r = (r ≡ row.BadCode) × (f.locals ≡ locals)
+Runs None locals f r = (r ≡ outcome.BadCode) × (f.locals ≡ locals)
 Runs (Some s) locals f r = Ran s locals f r
 
 -- the answer, where none stands for bad code, and the frame that is left are the row's outcome

@@ -1,9 +1,11 @@
 //! One step of a numeric instruction, by its row.
-ghost use Rattle.std.specs.Prelude.{◌≡◌, ◌<◌, ◌^◌, length};
+ghost use Rattle.std.specs.Prelude.{◌≡◌, ◌↔◌, ◌<◌, ◌^◌, false, length};
 ghost use Rattle.machine_model.specs.Conditions.{IsFrameOf, local_count};
 ghost use Rattle.machine_model.specs.NumericRows.{numeric_row};
 ghost use Rattle.machine_model.specs.State.{class_of_frame, stack_limit};
-ghost use Rattle.interp_num.specs.Steps.{Gives, MayGive, IsSameCall, IsWithin};
+ghost use Rattle.class_grammar.specs.Opcodes.{row_at};
+ghost use Rattle.interp_num.specs.declared.step.NumStep.TheVariants as step;
+ghost use Rattle.interp_num.specs.Steps.{is_numeric, Gives, MayGive, IsSameCall, IsWithin};
 
 use crate::arithmetic::{
     compare_longs, convert, divide_ints, divide_longs, increment, negate_int, negate_long,
@@ -130,6 +132,7 @@ pub fn step_num(system: &System, frame: &mut Frame, instr: &Instr) -> NumStep
     ensures row { Gives result frame.old frame.new (numeric_row system.now
         (class_of_frame system.now frame.old) (stack_limit system.now frame.old) instr.now
         frame.old.locals frame.old.stack.values) }
+    ensures others { result ≡ step.NotMine ↔ is_numeric (row_at instr.now.opcode) ≡ false }
     ensures place { (frame.new.method ≡ frame.old.method) × (frame.new.pc ≡ frame.old.pc) }
     ensures room { frame.new.stack.room ≡ frame.old.stack.room }
 {

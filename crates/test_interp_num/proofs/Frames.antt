@@ -1,11 +1,10 @@
 -- A frame within the limits of its method.
-use Rattle.std.proofs.Common.{◌≡◌, ℕ, ◌≤◌, ◌∙◌, refl, sym, ap, subst, Option, Some, None, arith}
-use Rattle.std.specs.Prelude.{IsSome, IsSomeAnd, length}
+use Rattle.std.proofs.Common.{◌≡◌, ℕ, ◌∙◌, refl, sym, ap, subst, Option, Some, None, arith}
+use Rattle.std.specs.Prelude.{IsSome, IsSomeAnd}
 use Rattle.std.specs.Option.{option_map, unwrap_or}
 use Rattle.jx_base.specs.declared.class_file.Code.{Code}
 use Rattle.jx_base.specs.declared.program.System.{System}
 use Rattle.jx_base.specs.declared.frame.Frame.{Frame}
-use Rattle.machine_model.specs.NumericRows.{depth_of}
 use Rattle.machine_model.specs.State.{code_of, stack_limit}
 use Rattle.machine_model.specs.Conditions.{IsFrameOf, local_count}
 use Rattle.test_interp_num.specs.Small.{HasLimits, IsFrameWithin}
