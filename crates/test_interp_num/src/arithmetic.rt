@@ -1,6 +1,6 @@
 //! Arithmetic, shifts, conversions and comparisons.
 
-use crate::told::{Case, each_comes_to};
+use crate::outcome_text::{Case, each_comes_to};
 use jx_base::Value::{Int, Long, Null};
 use std::test::Fail;
 

@@ -1,6 +1,6 @@
 //! Branches and switches.
 
-use crate::told::{Case, each_comes_to};
+use crate::outcome_text::{Case, each_comes_to};
 use jx_base::Value::{Int, Long, Null, Ref};
 use jx_base::{ClassId, ObjectId, ServiceId, Value};
 use std::test::Fail;

@@ -10,6 +10,6 @@ mod moves;
 #[cfg(test)]
 mod opcodes;
 #[cfg(test)]
-mod running;
+mod outcome_text;
 #[cfg(test)]
-mod told;
+mod running;

@@ -1,7 +1,7 @@
 //! Forms of the stack, loads and stores, constants, and the limit of the stack.
 
+use crate::outcome_text::{Case, each_comes_to, outcome_text};
 use crate::running::Setting;
-use crate::told::{Case, each_comes_to, told};
 use jx_base::Value::{Int, Long, Null, Ref};
 use jx_base::{ObjectId, Value};
 use std::test::Fail;
@@ -197,7 +197,7 @@ fn stack_gets_no_deeper_than_it_may(rt: HostRuntime) -> Result<(), Fail> {
             values,
             most: *most,
         };
-        let text = told(rt.alloc(), setting)?;
+        let text = outcome_text(rt.alloc(), setting)?;
         assert_eq!(rt; text.as_str(), *wanted, "opcode {opcode} within {most}");
     }
     Ok(())

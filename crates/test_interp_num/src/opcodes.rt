@@ -1,7 +1,7 @@
 //! Which opcodes are numeric.
 
+use crate::outcome_text::outcome_text;
 use crate::running::Setting;
-use crate::told::told;
 use jx_base::Value::{Int, Long, Null};
 use std::test::Fail;
 
@@ -39,7 +39,7 @@ fn other_opcodes_leave_the_frame_as_it_was(rt: HostRuntime) -> Result<(), Fail> 
             values: &[Null, Long(5), Int(0), Int(6)],
             most: 5,
         };
-        let text = told(rt.alloc(), setting)?;
+        let text = outcome_text(rt.alloc(), setting)?;
         let is_other = text.as_str() == "other: [ 7 8L _ ] null 5L 0 6";
         let is_numeric = NUMERIC
             .iter()

@@ -57,7 +57,7 @@ fn locals_text(alloc: Global, locals: &Locals) -> Result<String, OutOfMemory> {
 }
 
 /// What a step comes to.
-pub fn told(alloc: Global, setting: Setting<'_>) -> Result<String, OutOfMemory> {
+pub fn outcome_text(alloc: Global, setting: Setting<'_>) -> Result<String, OutOfMemory> {
     if setting.locals.len() > 1000 {
         return String::from_str(alloc, "too many locals");
     }
@@ -92,7 +92,7 @@ pub fn each_comes_to(
             values,
             most: 12,
         };
-        let text = told(alloc, setting)?;
+        let text = outcome_text(alloc, setting)?;
         assert_eq!(rt; text.as_str(), *wanted, "opcode {opcode}");
     }
     Ok(())
