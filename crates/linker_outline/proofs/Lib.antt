@@ -3,3 +3,4 @@ pub mod SelectorKeys
 pub mod Layouts
 pub mod SelectorLists
 pub mod SourceLists
+pub mod ArrayNames

@@ -2,6 +2,7 @@
 //! mean.
 #![tactic(auto)]
 
+mod arrays;
 mod classes;
 mod fields;
 mod method_selectors;
@@ -10,6 +11,7 @@ mod names;
 mod parts;
 mod selectors;
 
+pub use arrays::add_arrays_of;
 pub use classes::{array_class, class_of_file};
 pub use method_selectors::all_selectors;
 pub use methods::all_methods;
