@@ -9,7 +9,7 @@ use indexmap::IndexSet;
 use jx_base::{Listed, OutOfMemory, Text};
 use std::alloc::Global;
 
-const MARK: u16 = b'[' as u16;
+pub const MARK: u16 = b'[' as u16;
 
 // How many dimensions a class has.
 fn dimensions(class: &[u16]) -> usize

@@ -4,6 +4,7 @@
 
 mod arrays;
 mod classes;
+mod code_arrays;
 mod fields;
 mod method_selectors;
 mod methods;
@@ -13,6 +14,7 @@ mod selectors;
 
 pub use arrays::add_arrays_of;
 pub use classes::{array_class, class_of_file};
+pub use code_arrays::add_arrays_of_instr;
 pub use method_selectors::all_selectors;
 pub use methods::all_methods;
 pub use names::{Names, Units};
