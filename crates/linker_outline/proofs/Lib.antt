@@ -4,3 +4,4 @@ pub mod Layouts
 pub mod SelectorLists
 pub mod SourceLists
 pub mod ArrayNames
+pub mod CatchArrays

@@ -4,7 +4,7 @@ use Rattle.std.specs.Prelude.{flat_map}
 use Rattle.std.specs.List.{list_any}
 use Rattle.std.proofs.Math.Seq.{take-suc}
 use Rattle.std.proofs.lemmas.Bool.{cases_Bool}
-use Rattle.std.proofs.lemmas.List.{append-nil, map-append, reverse-append}
+use Rattle.std.proofs.lemmas.List.{append-nil, get_or_default, map-append, reverse-append}
 use Rattle.std.proofs.lemmas.List.Sorted.{list_any-IsPermutation, IsPermutation-reverse}
 use Rattle.jx_base.specs.Basics.{added, all_added}
 use Rattle.jx_base.specs.declared.class_file.ClassFile.{ClassFile}
@@ -58,6 +58,11 @@ module _ {A : Type 0} (same : A → A → Bool) where
       last : (zs : List B) → flat_map f (zs ++ y ∷ []) ≡ flat_map f zs ++ f y
       last [] = append-nil (f y)
       last (z ∷ zs) = ap (λ r. f z ++ r) (last zs) ∙ sym (append_assoc (f z) (flat_map f zs) (f y))
+
+-- the items of one more of a list, at its place
+pub added_at : {A B : Type 0} (same : A → A → Bool) (f : B → List A) (xs front : List A) (ys : List B) (i : ℕ) (d : B) → i < length ys
+    → all_added same xs (front ++ flat_map f (take (i + 1) ys)) ≡ all_added same (all_added same xs (front ++ flat_map f (take i ys))) (f (get_or ys i d))
+added_at same f xs front ys i d le = added_flat same f xs front ys i (get_or ys i d) le (get_or_default ys i d (get_or ys i d) le)
 
 -- ---- first mentions
 

@@ -4,3 +4,4 @@ pub mod Keys
 pub mod Parts
 pub mod Fields
 pub mod Methods
+pub mod Catches

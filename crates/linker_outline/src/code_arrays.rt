@@ -1,15 +1,17 @@
 //! The array classes that instructions name or make.
-ghost use Rattle.std.specs.Prelude.{◌≡◌, ◌∷◌, [], IfOk, OnOk};
+ghost use Rattle.std.specs.Prelude.{◌≡◌, ◌∷◌, [], IfOk, OnOk, flat_map};
 ghost use Rattle.std.specs.Str.{bytes_eq};
 ghost use Rattle.jx_base.specs.Basics.{all_added};
-ghost use Rattle.link_model.specs.ClassFiles.{arrays_of_instr, class_at_index};
+ghost use Rattle.link_model.specs.ClassFiles.{arrays_of_code, arrays_of_instr, class_at_index};
+ghost use Rattle.linker_outline.specs.Catches.{arrays_of_catch};
+ghost use Rattle.program_model.specs.Instructions.{instructions_of};
 ghost use Rattle.program_model.specs.Lookup.{type_of_name};
 ghost use Rattle.program_model.specs.Types.{element_type};
 
 use crate::arrays::{MARK, add_arrays_of};
 use indexmap::IndexSet;
 use instruction_table::row_of;
-use jx_base::{ClassFile, Instr, OutOfMemory, Row, Text};
+use jx_base::{ClassFile, Code, Instr, OutOfMemory, Range, Row, Text};
 use linker_names::{class_of_constant, constant_in, index_operand, use_by};
 use std::alloc::Global;
 
@@ -87,4 +89,70 @@ pub fn add_arrays_of_instr(
             None => Ok(()),
         },
     }
+}
+
+// Adds the array classes of the instructions of a method.
+fn add_arrays_of_body(
+    alloc: Global,
+    names: &mut IndexSet<Text>,
+    file: &ClassFile,
+    body: &[Instr],
+) -> Result<(), OutOfMemory>
+    ensures { OnOk result (names.new.keys
+        ≡ all_added bytes_eq names.old.keys (flat_map (arrays_of_instr file.now) body.now)) }
+{
+    for instr in body {
+        add_arrays_of_instr(alloc, names, file, instr)?;
+    }
+    Ok(())
+}
+
+// Adds the array classes of what an exception table catches.
+fn add_arrays_of_catches(
+    alloc: Global,
+    names: &mut IndexSet<Text>,
+    file: &ClassFile,
+    table: &[Range],
+) -> Result<(), OutOfMemory>
+    ensures { OnOk result (names.new.keys
+        ≡ all_added bytes_eq names.old.keys (flat_map (arrays_of_catch file.now) table.now)) }
+{
+    for range in table {
+        add_arrays_of_catch(alloc, names, file, range)?;
+    }
+    Ok(())
+}
+
+// Adds the array classes of the class that an entry of an exception table catches.
+#[tactic(auto, unfolding(jx_base::specs::Basics::all_added))]
+fn add_arrays_of_catch(
+    alloc: Global,
+    names: &mut IndexSet<Text>,
+    file: &ClassFile,
+    range: &Range,
+) -> Result<(), OutOfMemory>
+    ensures { OnOk result (names.new.keys
+        ≡ all_added bytes_eq names.old.keys (arrays_of_catch file.now range.now)) }
+{
+    if range.catch_type == 0 {
+        return Ok(());
+    }
+    add_arrays_of(alloc, names, class_at_index(file, range.catch_type))
+}
+
+/// Adds the array classes of a method's code: those of its instructions, then those of its catch
+/// types.
+pub fn add_arrays_of_code(
+    alloc: Global,
+    names: &mut IndexSet<Text>,
+    file: &ClassFile,
+    code: &Code,
+    body: &[Instr],
+) -> Result<(), OutOfMemory>
+    requires { body.now ≡ instructions_of code.now.code }
+    ensures { OnOk result (names.new.keys
+        ≡ all_added bytes_eq names.old.keys (arrays_of_code file.now code.now)) }
+{
+    add_arrays_of_body(alloc, names, file, body)?;
+    add_arrays_of_catches(alloc, names, file, code.table.as_slice())
 }

@@ -14,7 +14,7 @@ mod selectors;
 
 pub use arrays::add_arrays_of;
 pub use classes::{array_class, class_of_file};
-pub use code_arrays::add_arrays_of_instr;
+pub use code_arrays::{add_arrays_of_code, add_arrays_of_instr};
 pub use method_selectors::all_selectors;
 pub use methods::all_methods;
 pub use names::{Names, Units};
