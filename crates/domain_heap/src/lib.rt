@@ -1,0 +1,6 @@
+//! The heap of a domain.
+#![tactic(auto)]
+
+mod heap;
+
+pub use heap::Heap;
