@@ -1,0 +1,9 @@
+mod Lies
+mod Apart
+mod Cuts
+mod Release
+mod Runs
+mod Places
+mod Pools
+mod Views
+mod Tally

@@ -1,0 +1,4 @@
+pub mod Holes
+pub mod Joins
+pub mod Taken
+pub mod Inside
