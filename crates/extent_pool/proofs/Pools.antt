@@ -14,10 +14,10 @@ use Rattle.extent_pool.specs.declared.hole.Hole.{Hole}
 use Rattle.extent_pool.specs.Holes.{lies_in_hole, lies_in_holes, granules_of, AreApart}
 use Rattle.extent_pool.specs.Joins.{one_hole, cut_front, joined}
 use Rattle.extent_pool.specs.Taken.{is_taken, AreTaken, with_run}
-use Rattle.extent_pool.proofs.Apart.{apart_lower}
+use Rattle.extent_pool.proofs.Apart.{apart_lower, hole_within}
 use Rattle.extent_pool.proofs.Cuts.{cut_granule}
 use Rattle.extent_pool.proofs.Release.{joined_granule, joined_apart, joined_sum, ends_before, begin_behind}
-use Rattle.extent_pool.proofs.Views.{granule, granule_past, granules_length, granules_changed, all_spare, least_place, no_place}
+use Rattle.extent_pool.proofs.Views.{granule, granule_past, granules_length, granules_changed, all_spare, run_taken, least_place, no_place}
 use Rattle.extent_pool.proofs.Places.{all_fail}
 use Rattle.extent_pool.proofs.Lies.{lies, within}
 use Rattle.std.proofs.lemmas.List.FromFn.{fill_by_all}
@@ -101,6 +101,14 @@ taken_view total n i at h holes new old v a e l is place =
     ∙ cut_granule n (total + 1) i g h holes e l a
     ∙ ap (λ (x : ℕ). if lies_in g (x, n) then true else not (lies_in_holes holes g)) (sym place))
     ∙ ap (λ (xs : List Bool). with_run xs at n true) v
+
+-- what is taken may be given
+pub taken_given : (total n i at : ℕ) (h : Hole) (holes new : List Hole) (old : List Bool) → granules_of total holes ≡ old → AreApart 0 (total + 1) holes →
+    slice_get holes i ≡ Some h → n ≤ h.count → new ≡ cut_front n holes i → at ≡ h.at → AreTaken (granules_of total new) at n
+taken_given total n i at h holes new old v a e l is place =
+    let within_pool = hole_within 0 (total + 1) i h holes a e in
+    subst (λ (xs : List Bool). AreTaken xs at n) (sym (taken_view total n i at h holes new old v a e l is place))
+    (run_taken old at n (omega (arith, within_pool.2, l, place, granules_length total holes, ap length v)))
 
 -- ---- granules that are given
 

@@ -5,7 +5,8 @@ use Rattle.std.proofs.lemmas.List.FromFn.{length-map-range_with_len, get_or-map-
 use Rattle.jx_model.specs.Granules.{lies_in, is_free_run, least_free}
 use Rattle.extent_pool.specs.declared.hole.Hole.{Hole}
 use Rattle.extent_pool.specs.Holes.{lies_in_holes, granules_of, AreApart}
-use Rattle.extent_pool.specs.Taken.{is_taken, with_run}
+use Rattle.extent_pool.specs.Taken.{is_taken, AreTaken, with_run}
+use Rattle.extent_pool.proofs.Lies.{lies}
 use Rattle.extent_pool.proofs.Apart.{hole_within}
 use Rattle.extent_pool.proofs.Runs.{all_free, each_free, is_least, is_none, LieIn, fits_at, not_before, none_fit}
 
@@ -43,6 +44,15 @@ all_spare n holes f =
     (granules_length n holes ∙ sym (length-replicate n false))
     (λ g l. let m : g < n = omega (arith, l, granules_length n holes) in
     granule n g holes m ∙ ap not (f g m) ∙ sym (get_or-replicate n g false false m))
+
+-- what was taken is taken
+pub run_taken : (old : List Bool) (at n : ℕ) → at + n ≤ length old → AreTaken (with_run old at n true) at n
+run_taken old at n l g u v =
+    get_or-map-range_with_len after 0 (length old) g g false (omega (arith, l, v)) (omega arith)
+    ∙ ap (λ (b : Bool). if b then true else is_taken old g) (lies g at n u v)
+  where
+    after : ℕ → Bool
+    after g = if lies_in g (at, n) then true else is_taken old g
 
 -- ---- the least place
 

@@ -44,13 +44,14 @@ impl Pool {
         })
     }
 
-    /// Takes n granules in a row at the least place, and gives the place of the first. `None` where
-    /// no n free granules stand together.
+    /// Takes n granules in a row at the least place, and gives the place of the first; they may be
+    /// given back. `None` where no n free granules stand together.
     pub fn take(&mut self, n: u32) -> Option<u32>
         requires { 0 < n }
         ensures place { result
             ≡ least_free (is_taken self.old) n (length self.old + 1 - n) 0 }
         ensures taken { IfSome result (λ at. self.new ≡ with_run self.old at n true) }
+        ensures given { IfSome result (λ at. AreTaken self.new at n) }
         ensures unchanged { result ≡ None → self.new ≡ self.old }
     {
         let place = first_large(self.holes.as_slice(), n)?;

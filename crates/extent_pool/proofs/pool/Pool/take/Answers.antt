@@ -3,7 +3,7 @@ use Rattle.extent_pool.specs.declared.hole.Hole.{Hole}
 use Rattle.extent_pool.specs.Holes.{AreApart}
 use Rattle.extent_pool.proofs.Apart.{have_ends}
 use Rattle.extent_pool.proofs.Cuts.{cut_apart, cut_sum}
-use Rattle.extent_pool.proofs.Pools.{hole_at, found_at, found_large, found_place, found_none, taken_view, found_in, if_some}
+use Rattle.extent_pool.proofs.Pools.{hole_at, found_at, found_large, found_place, found_none, taken_view, taken_given, found_in, if_some}
 use Rattle.extent_pool.proofs.pool.Pool.take.Goals as goal
 
 pub returns-in_err-place-clause-place : goal.returns-in_err-place-clause-place
@@ -52,5 +52,13 @@ returns-clause-taken c =
     let p = c.self.inside in let i = c.in_ok-place.place in let n = c.args.n in let holes = p.holes.items in
     let some = found_in n c.as_slice.result.now holes c.first_large.result (Some i) c.as_slice.ensures.value c.first_large.ensures c.in_ok-place.was in
     taken_view p.granules n i c.cut-at.result (hole_at holes i) holes c.cut-at.new.holes.items c.args.self.now c.self.view_is c.self.invariant.apart
+    (found_at n i holes some) (found_large n i holes some) c.cut-at.ensures.items
+    (if_some (λ (h : Hole). c.cut-at.result ≡ h.at) (slice_get holes i) (hole_at holes i) (found_at n i holes some) c.cut-at.ensures.at)
+
+pub returns-clause-given : goal.returns-clause-given
+returns-clause-given c =
+    let p = c.self.inside in let i = c.in_ok-place.place in let n = c.args.n in let holes = p.holes.items in
+    let some = found_in n c.as_slice.result.now holes c.first_large.result (Some i) c.as_slice.ensures.value c.first_large.ensures c.in_ok-place.was in
+    taken_given p.granules n i c.cut-at.result (hole_at holes i) holes c.cut-at.new.holes.items c.args.self.now c.self.view_is c.self.invariant.apart
     (found_at n i holes some) (found_large n i holes some) c.cut-at.ensures.items
     (if_some (λ (h : Hole). c.cut-at.result ≡ h.at) (slice_get holes i) (hole_at holes i) (found_at n i holes some) c.cut-at.ensures.at)
