@@ -5,3 +5,4 @@ pub mod SelectorLists
 pub mod SourceLists
 pub mod ArrayNames
 pub mod CatchArrays
+pub mod FileArrays

@@ -5,7 +5,8 @@ use Rattle.std.proofs.lemmas.List.{append-nil, map-append, length-take-le}
 use Rattle.jx_base.specs.declared.class_file.ClassFile.{ClassFile}
 use Rattle.jx_base.specs.declared.program.Class.{Class}
 use Rattle.jx_base.specs.declared.program.Method.{Method}
-use Rattle.link_model.specs.Linking.{Source, built_in_sources_from, file_sources, file_sources_from}
+use Rattle.jx_base.specs.declared.program.Plan.{Plan}
+use Rattle.link_model.specs.Linking.{Source, built_in_sources_from, class_of_file, classes_from, file_sources, file_sources_from}
 use Rattle.linker_outline.specs.Methods.{class_source, file_source}
 
 -- one item more of a list
@@ -67,3 +68,25 @@ no_files c = refl
 pub more_files : (c : ℕ) (f : ClassFile) (fs : List ClassFile) → file_sources_from c (f ∷ fs) ≡ of_file c f ++ file_sources_from (c + 1) fs
 unfolding file_sources_from file_sources
 more_files c f fs = refl
+
+-- ---- the classes of files
+
+module _ (plan : Plan) (files : List ClassFile) where
+  -- one class more
+  last_class : (c : ℕ) (fs : List ClassFile) (f : ClassFile) → classes_from plan files c (fs ++ f ∷ []) ≡ classes_from plan files c fs ++ class_of_file plan files (c + length fs) f ∷ []
+  unfolding classes_from
+  last_class c [] f = ap (λ n. class_of_file plan files n f ∷ []) (sum c)
+    where
+      sum : (c : ℕ) → c ≡ c + 0
+      sum c = omega arith
+  last_class c (g ∷ fs) f = ap (λ ks. class_of_file plan files c g ∷ ks) (last_class (c + 1) fs f) ∙ ap (λ n. class_of_file plan files c g ∷ classes_from plan files (c + 1) fs ++ class_of_file plan files n f ∷ []) (sum c (length fs))
+    where
+      sum : (c n : ℕ) → c + 1 + n ≡ c + suc n
+      sum c n = omega arith
+
+  -- the class of one file more
+  pub next_class : (c : ℕ) (fs : List ClassFile) (i : ℕ) (f : ClassFile) → i < length fs → f ≡ get_or fs i f
+      → classes_from plan files c (take (i + 1) fs) ≡ classes_from plan files c (take i fs) ++ class_of_file plan files (c + i) f ∷ []
+  next_class c fs i f le is =
+      ap (classes_from plan files c) (taken fs i f le is) ∙ last_class c (take i fs) f
+      ∙ ap (λ n. classes_from plan files c (take i fs) ++ class_of_file plan files (c + n) f ∷ []) (length-take-le i fs (omega (arith, le)))
