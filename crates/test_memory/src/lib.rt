@@ -1,10 +1,18 @@
-//! Tests of the pool of granules and of heaps.
+//! Tests of the pool of granules, of heaps and of parcels.
 #![tactic(auto)]
 
 #[cfg(test)]
 mod heaps;
 #[cfg(test)]
+mod limits;
+#[cfg(test)]
 mod objects;
+#[cfg(test)]
+mod packed;
+#[cfg(test)]
+mod parcel_text;
+#[cfg(test)]
+mod parcels;
 #[cfg(test)]
 mod pool;
 #[cfg(test)]
