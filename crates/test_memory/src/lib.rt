@@ -2,6 +2,8 @@
 #![tactic(auto)]
 
 #[cfg(test)]
+mod fitting;
+#[cfg(test)]
 mod heaps;
 #[cfg(test)]
 mod limits;
@@ -17,3 +19,5 @@ mod parcels;
 mod pool;
 #[cfg(test)]
 mod pools;
+#[cfg(test)]
+mod systems;
