@@ -90,6 +90,13 @@ impl OperandStack {
         self.items.len()
     }
 
+    /// The value that has so many values above it. `None` where there are no more.
+    pub fn get(&self, above: usize) -> Option<Value>
+        ensures { result ≡ slice_get self.now.values above }
+    {
+        self.items.iter().rev().nth(above).copied()
+    }
+
     /// Takes the value on the top. Of an empty stack that is `None`.
     pub fn pop(&mut self) -> Option<Value>
         ensures value { result ≡ slice_get self.old.values 0 }

@@ -31,7 +31,7 @@ pub struct Plan {
 }
 
 /// A method's name with its descriptor.
-#[derive(Drop)]
+#[derive(PartialEq, Eq, Hash, Drop)]
 pub struct Selector {
     pub name: Text,
     pub descriptor: Text,

@@ -3,7 +3,7 @@
 use jx_base::Text;
 
 /// What is wrong with a class, or with what its code uses.
-#[derive(Clone, Copy)]
+#[derive(Clone, Copy, Debug, PartialEq, Eq)]
 pub enum LinkKind {
     NoClass = 1,
     NoField = 2,
@@ -18,7 +18,7 @@ pub enum LinkKind {
 
 /// The first fault of linking: the class that was read, and the name that is missing or at fault.
 /// For `BadConstant` the name is the constant's index in decimal digits.
-#[derive(Drop)]
+#[derive(Debug, Drop)]
 pub struct LinkFault {
     pub class: Text,
     pub kind: LinkKind,

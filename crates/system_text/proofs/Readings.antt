@@ -7,8 +7,8 @@ use Rattle.jx_base.specs.declared.program.Plan.{Plan}
 use Rattle.toml.specs.Data.{Members}
 use Rattle.toml.specs.Parse.{parse_document}
 use Rattle.system_text.specs.declared.fault.PlanFault.{PlanFault}
-use Rattle.system_text.specs.declared.fault.PlanError.{PlanError}
-use Rattle.system_text.specs.declared.fault.PlanError.TheVariants.{Bad, OutOfMemory}
+use Rattle.jx_base.specs.declared.error.Error.{Error}
+use Rattle.jx_base.specs.declared.error.Error.TheVariants.{Bad, OutOfMemory}
 use Rattle.system_text.specs.Description.{table_of, Describes, IsPlanFault, described_plan, plan_fault}
 use Rattle.system_text.specs.Answers.{IsNamed, IsPlanOrMemory, IsFaultOrMemory}
 
@@ -51,13 +51,13 @@ fault_same bytes f g (inr a) (inr b) =
     let y = b.2 in
     cc
 
-pub only_plan : (bytes : List ℕ) (r : Result Plan PlanError) → IfOk r (Describes bytes) → IfErr r (IsNamed (IsPlanFault bytes))
+pub only_plan : (bytes : List ℕ) (r : Result Plan (Error PlanFault)) → IfOk r (Describes bytes) → IfErr r (IsNamed (IsPlanFault bytes))
     → (plan : Plan) → Describes bytes plan → IsPlanOrMemory plan r
 only_plan bytes (Ok given) found fault plan d = plan_same bytes given plan found d
 only_plan bytes (Err (Bad f)) found fault plan d = plan_without_fault bytes plan f d fault
 only_plan bytes (Err OutOfMemory) found fault plan d = tt
 
-pub only_fault : (bytes : List ℕ) (r : Result Plan PlanError) → IfOk r (Describes bytes) → IfErr r (IsNamed (IsPlanFault bytes))
+pub only_fault : (bytes : List ℕ) (r : Result Plan (Error PlanFault)) → IfOk r (Describes bytes) → IfErr r (IsNamed (IsPlanFault bytes))
     → (f : PlanFault) → IsPlanFault bytes f → IsFaultOrMemory f r
 only_fault bytes (Ok given) found fault f e = plan_without_fault bytes given f found e
 only_fault bytes (Err (Bad g)) found fault f e = fault_same bytes g f fault e
