@@ -32,7 +32,7 @@ no_longer (x ∷ xs) ys h all =
 -- ---- first numbers and finds
 
 -- a number that stands in a list is contained in it
-number_there : (xs : List ℕ) (n : ℕ) → Among xs n → contains_number xs n ≡ true
+pub number_there : (xs : List ℕ) (n : ℕ) → Among xs n → contains_number xs n ≡ true
 unfolding contains_number
 number_there xs n h = among_any (λ x. x == n) xs n h (same_number n)
 
