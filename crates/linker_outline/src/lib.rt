@@ -13,6 +13,7 @@ mod methods;
 mod names;
 mod parts;
 mod selectors;
+mod whole;
 
 pub use all_classes::linked_classes;
 pub use arrays::add_arrays_of;
@@ -24,3 +25,4 @@ pub use methods::all_methods;
 pub use names::{Names, Units};
 pub use parts::Parts;
 pub use selectors::Selectors;
+pub use whole::outline;

@@ -1,5 +1,6 @@
 //! Selectors, each once.
-ghost use Rattle.std.specs.Prelude.{◌≡◌, ◌++◌, ◌<◌, [], ℕ, List, IfSome, OnOk, length, position};
+ghost use Rattle.std.specs.Prelude.{◌≡◌, ◌++◌, ◌<◌, [], ℕ, List, IfOk, IfSome, OnOk, length};
+ghost use Rattle.std.specs.Prelude.{position};
 ghost use Rattle.std.specs.Hash as fed;
 ghost use Rattle.jx_base.proofs.BasicLaws.{ap2};
 ghost use Rattle.linker_outline.specs.KeysAlike.{alike_with, first_alike, same_texts, second_alike};
@@ -19,6 +20,18 @@ use std::marker::Model;
 pub struct Key {
     name: Text,
     descriptor: Text,
+}
+
+impl Key {
+    // The selector that the key is.
+    fn selector(&self, alloc: Global) -> Result<Selector, OutOfMemory>
+        ensures { IfOk result (λ selector. selector ≡ selector_of_key self.now) }
+    {
+        Ok(Selector {
+            name: self.name.copy(alloc)?,
+            descriptor: self.descriptor.copy(alloc)?,
+        })
+    }
 }
 
 impl Equivalent<Key> for NameAndType<'_> {
@@ -81,5 +94,17 @@ impl Selectors {
         ensures within { IfSome result (λ place. place < length self.now) }
     {
         self.keys.get_index_of(member)
+    }
+
+    /// The selectors in their order.
+    pub fn list(&self, alloc: Global) -> Result<Vec<Selector>, OutOfMemory>
+        ensures { IfOk result (λ list. list.items ≡ self.now) }
+    {
+        let keys = self.keys.as_slice();
+        let mut list = Vec::with_capacity(alloc, keys.len())?;
+        for key in keys {
+            list.push(key.selector(alloc)?)?;
+        }
+        Ok(list)
     }
 }
