@@ -115,7 +115,7 @@ code_whole c instrs filled h =
     }
 
 -- the instructions of code that was read are those that reading gives
-instrs_are : (c : Code) (instrs : List Instr) → IsCode c.code c.table instrs → instrs ≡ instructions_of c.code
+pub instrs_are : (c : Code) (instrs : List Instr) → IsCode c.code c.table instrs → instrs ≡ instructions_of c.code
 unfolding instructions_of instructions_in
 instrs_are c instrs h = sym (ap instructions_in (read_alone c.code c.table instrs h))
 

@@ -1,6 +1,6 @@
 //! Selectors, each once.
-ghost use Rattle.std.specs.Prelude.{◌≡◌, ◌++◌, ◌<◌, [], ℕ, List, IfOk, IfSome, OnOk, length};
-ghost use Rattle.std.specs.Prelude.{position};
+ghost use Rattle.std.specs.Prelude.{◌≡◌, ◌++◌, ◌<◌, [], ℕ, List, length, position};
+ghost use Rattle.std.specs.Prelude.{IfOk, IfSome, OnOk};
 ghost use Rattle.std.specs.Hash as fed;
 ghost use Rattle.jx_base.proofs.BasicLaws.{ap2};
 ghost use Rattle.linker_outline.specs.KeysAlike.{alike_with, first_alike, same_texts, second_alike};

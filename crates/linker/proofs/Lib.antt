@@ -1,0 +1,3 @@
+pub mod ReadMethods
+pub mod Walks
+pub mod Outlined

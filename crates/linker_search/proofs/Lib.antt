@@ -1,0 +1,10 @@
+pub mod MemberPlaces
+pub mod OneMore
+pub mod FieldPlaces
+pub mod Added
+pub mod Walks
+pub mod Followed
+pub mod Finding
+pub mod Chains
+pub mod Above
+pub mod Turns

@@ -1,0 +1,7 @@
+mod FirstFaults
+mod KnownClasses
+mod MarkLists
+mod Meanings
+pub mod Outlines
+mod UseLists
+mod UseFaults

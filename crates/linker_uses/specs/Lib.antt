@@ -1,0 +1,4 @@
+pub mod BuiltInFirst
+pub mod Constants
+pub mod LateFaults
+pub mod Systems
