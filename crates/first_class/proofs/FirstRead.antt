@@ -13,7 +13,9 @@ use Rattle.class_grammar.specs.CodeGrammar.{opened_code_grammar}
 use Rattle.class_reader.proofs.ClassLaws.{lawful_class_file}
 use Rattle.code_reader.specs.CodeReading.{code_reading}
 use Rattle.code_reader.proofs.ReadingLaws.{code_found}
-use Rattle.linker_members.specs.ReadCode.{IsReadCode, HaveReadCode}
+use Rattle.class_grammar.specs.ReadFiles.{IsReadCode}
+use Rattle.std.specs.List.{AllByRecursion}
+use Rattle.std.specs.Prelude.{IfSome}
 use Rattle.std.proofs.Common.{arith}
 use Rattle.first_class.specs.FirstClass.{first_bytes, first_class, first_constants, first_main, first_code}
 
@@ -38,7 +40,7 @@ first_code_reads = refl
 pub first_code_is_read : IsReadCode first_code
 first_code_is_read = (first_instrs, code_found first_code.code first_code.table first_instrs first_code_reads)
 
-pub first_codes_are_read : HaveReadCode first_class.methods
+pub first_codes_are_read : AllByRecursion (λ m. IfSome m.code IsReadCode) first_class.methods
 unfolding first_class first_main
 first_codes_are_read = (first_code_is_read, tt)
 

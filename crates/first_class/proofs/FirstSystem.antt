@@ -1,5 +1,5 @@
 -- What is proved of the first system, by computing it.
-use Rattle.std.specs.Prelude.{◌≡◌, refl, ℕ, ◌-◌, List, [], ◌∷◌, length, Some, slice_get, codes}
+use Rattle.std.specs.Prelude.{◌≡◌, refl, Result, Ok, Err, IfOk, ℕ, ◌-◌, List, [], ◌∷◌, length, Some, slice_get, codes}
 use Rattle.std.proofs.Common.{subst, sym, ◌∙◌}
 use Rattle.jx_base.specs.declared.act.Act.TheVariants as act
 use Rattle.jx_base.specs.declared.act.Entry.{Entry}
@@ -112,3 +112,13 @@ first_run_is =
       supported = supported;
       ends = first_ends;
     }
+
+-- a system that is linked from the first class alone is the first one
+pub is_first_system : (s : System) → IsLinked (one_class_plan (codes "Hello")) (first_class ∷ []) s → s ≡ first_system
+unfolding first_system first_plan first_files
+is_first_system s linked = linked.system
+
+-- where its history is given, it is a run of such a system
+pub first_runs : {E : Type 0} (s : System) (r : Result History E) → s ≡ first_system → IfOk r (λ h. h ≡ first_history) → IfOk r (IsFirstRun s)
+first_runs s (Ok h) same is = subst (λ (x : System). IsFirstRun x h) (sym same) (subst (λ (x : History). IsFirstRun first_system x) (sym is) first_run_is)
+first_runs s (Err e) same is = tt

@@ -5,5 +5,4 @@ pub mod HelloLinked
 pub mod FirstClass
 pub mod FirstComplete
 pub mod FirstRead
-pub mod FirstLinking
 pub mod FirstSystem

@@ -6,14 +6,9 @@ use Rattle.jx_base.specs.declared.act.Reply.TheVariants as reply
 use Rattle.jx_base.specs.declared.act.Entry.{Entry}
 use Rattle.jx_base.specs.declared.act.History.{History}
 use Rattle.jx_base.specs.declared.class_file.ClassFile.{ClassFile}
-use Rattle.jx_base.specs.declared.class_file.Instr.{Instr}
-use Rattle.jx_base.specs.declared.program.Class.{Class}
-use Rattle.jx_base.specs.declared.program.Method.{Method}
 use Rattle.jx_base.specs.declared.program.Plan.{Plan}
 use Rattle.jx_base.specs.declared.program.System.{System}
-use Rattle.program_model.specs.BuiltIn.{array_class}
 use Rattle.system_text.specs.Description.{one_class_plan}
-use Rattle.linker_classes.specs.Classes.{class_of_file}
 use Rattle.first_class.specs.FirstClass.{first_class}
 use Rattle.link_model.specs.Linking.{linked_system}
 
@@ -28,17 +23,6 @@ first_files = first_class ∷ []
 -- the system that they link to
 unfoldable pub first_system : System
 first_system = linked_system first_plan first_files
-
--- the instructions of the last method
-abbrev pub last_instrs : List Method → List Instr
-last_instrs methods = elim (slice_get methods (length methods - 1)) [ None ↦ [] | Some m ↦ m.instrs ]
-
--- the classes without what their constants mean
-abbrev pub outlined_classes : List Class → ClassFile → List Class
-outlined_classes built_in f =
-    built_in ++ class_of_file built_in f ∷ []
-    ++ array_class (codes "Ljava/lang/String;") ∷ []
-    ++ array_class (codes "Ljx/Memory;") ∷ []
 
 -- the history of one domain whose main prints the text
 unfoldable pub one_print : List ℕ → List Entry

@@ -1,12 +1,13 @@
 //! What is run by now.
-ghost use Rattle.std.specs.Prelude.{◌≡◌, ◌↔◌, IfOk, IsTrue, codes};
+ghost use Rattle.std.specs.Prelude.{◌≡◌, ◌↔◌, ◌∷◌, [], IfOk, IsTrue, codes};
 ghost use Rattle.first_class.specs.ByNow.{IsFirstFile, IsFirstRun};
 ghost use Rattle.first_class.specs.FirstClass.{first_bytes, first_class};
+ghost use Rattle.link_model.specs.LinkFaults.{IsLinked};
+ghost use Rattle.system_text.specs.Description.{one_class_plan};
 
 use crate::FIRST_CLASS;
 use crate::history::history;
-use crate::link::link;
-use jx_base::{ClassFile, History, OutOfMemory, System};
+use jx_base::{History, OutOfMemory, System};
 use std::alloc::Global;
 
 fn has_first_name(file: &str) -> bool
@@ -29,12 +30,10 @@ pub fn is_first(file: &str, bytes: &[u8]) -> bool
     has_first_name(file) && are_first_bytes(bytes)
 }
 
-/// The system of the first class, and the history of one worker of it.
-pub fn first_run(alloc: Global, class: &ClassFile) -> Result<(System, History), OutOfMemory>
-    requires { class.now ≡ first_class }
-    ensures { IfOk result (λ run. IsFirstRun run.0 run.1) }
+/// The history of one worker of the first class's system.
+pub fn history_of_first(alloc: Global, system: &System) -> Result<History, OutOfMemory>
+    requires { IsLinked (one_class_plan (codes "Hello")) (first_class ∷ []) system.now }
+    ensures { IfOk result (IsFirstRun system.now) }
 {
-    let system = link(alloc, class)?;
-    let history = history(alloc)?;
-    Ok((system, history))
+    history(alloc)
 }

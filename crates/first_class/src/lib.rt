@@ -5,9 +5,8 @@
 mod by_now;
 mod history;
 mod laws;
-mod link;
 
-pub use by_now::{first_run, is_first};
+pub use by_now::{history_of_first, is_first};
 pub use laws::first_system_prints;
 
 /// A class whose `main` prints `hi`, of version 52.0.

@@ -1,7 +1,6 @@
 -- A class is read in one way, or bad in one way.
-use Rattle.std.specs.Prelude.{◌≡◌, ℕ, ◌+◌, List, [], ◌∷◌, ◌++◌, length, Option, Some, None}
+use Rattle.std.specs.Prelude.{◌≡◌, ℕ, ◌+◌, List, [], ◌∷◌, ◌++◌, length, Option, Some, IfSome}
 use Rattle.std.proofs.Common.{sym, ◌∙◌, ap, subst, inl, inr}
-use Rattle.std.specs.List.{AllByRecursion}
 use Rattle.jx_base.specs.declared.class_file.ClassFile.{ClassFile}
 use Rattle.jx_base.specs.declared.class_file.Code.{Code}
 use Rattle.jx_base.specs.declared.class_file.Member.{Member}
@@ -12,13 +11,14 @@ use Rattle.jx_base.specs.declared.fault.CodeKind.{CodeKind}
 use Rattle.class_grammar.specs.ClassGrammar.{IsClassFile, IsClassFault, class_file_part}
 use Rattle.class_grammar.specs.CodeGrammar.{IsCodeFault, code_fault}
 use Rattle.class_grammar.specs.Constants.{class_fault}
+use Rattle.class_grammar.specs.ReadFiles.{IsReadCode}
 use Rattle.class_grammar.proofs.PartLaws.{one_meaning, one_fault, not_both}
 use Rattle.class_reader.proofs.ClassLaws.{lawful_class_file}
 use Rattle.code_reader.proofs.ReadingLaws.{code_only, fault_only}
-use Rattle.linker_members.specs.ReadCode.{IsReadCode, HasReadCode}
-use Rattle.jx_top.specs.ReadClasses.{IsReadClass, IsBadCode, HasFirstBadCode, IsBadClass}
+use Rattle.jx_top.specs.ReadClasses.{HaveReadCode, IsReadClass, IsBadCode, HasFirstBadCode, IsBadClass}
 use Rattle.jx_top.specs.declared.defect.Defect.{Defect}
 use Rattle.jx_top.specs.declared.defect.DefectKind.TheVariants as defect
+use Rattle.jx_top.proofs.Firsts.{holds_between, one_first}
 
 -- ---- files
 
@@ -52,51 +52,22 @@ one_bad_code code d e p q =
 
 -- ---- methods
 
-read_at : (code : Option Code) (c : Code) → code ≡ Some c → HasReadCode code → IsReadCode c
-read_at code c is h = subst HasReadCode is h
+abbrev HasReadCode : Member → Type 0
+HasReadCode m = IfSome m.code IsReadCode
 
 -- a method whose code is bad is none of those whose code is read
-not_read : (method : Member) (c : Code) (d : Defect) → method.code ≡ Some c → IsBadCode c d → HasReadCode method.code → ⊥
-not_read method c d is bad read = code_or_fault c d (read_at method.code c is read) bad
+not_read : (method : Member) (c : Code) (d : Defect) → method.code ≡ Some c → IsBadCode c d → HasReadCode method → ⊥
+not_read method c d is bad read = code_or_fault c d (subst (λ (o : Option Code). IfSome o IsReadCode) is read) bad
 
-abbrev AreRead : List Member → Type 0
-AreRead methods = AllByRecursion (λ m. HasReadCode m.code) methods
-
-read_behind : (before : List Member) (method : Member) (after : List Member) → AreRead (before ++ method ∷ after) → HasReadCode method.code
-read_behind [] method after h = h.0
-read_behind (m ∷ before) method after h = read_behind before method after h.1
-
-methods_or_bad : (methods : List Member) (d : Defect) → AreRead methods → HasFirstBadCode methods d → ⊥
+methods_or_bad : (methods : List Member) (d : Defect) → HaveReadCode methods → HasFirstBadCode methods d → ⊥
 methods_or_bad methods d h bad =
-    not_read bad.method bad.code d bad.is_code bad.bad (read_behind bad.before bad.method bad.after (subst AreRead bad.parts h))
-
-abbrev head_of : List Member → Option Member
-head_of [] = None
-head_of (m ∷ ms) = Some m
-
-abbrev tail_of : List Member → List Member
-tail_of [] = []
-tail_of (m ∷ ms) = ms
-
-same_method : (m n : Member) (ms ns : List Member) → m ∷ ms ≡ n ∷ ns → m ≡ n
-same_method m n ms ns e = let heads : Some m ≡ Some n = ap head_of e in cc
-
--- the first method whose code is bad is one
-one_first : (before other : List Member) (m n : Member) (after more : List Member) (c k : Code) (d e : Defect) → before ++ m ∷ after ≡ other ++ n ∷ more
-    → AreRead before → AreRead other → m.code ≡ Some c → IsBadCode c d → n.code ≡ Some k → IsBadCode k e → m ≡ n
-one_first [] [] m n after more c k d e parts p q is bad is_other bad_other = same_method m n after more parts
-one_first [] (o ∷ other) m n after more c k d e parts p q is bad is_other bad_other =
-    let same : o ≡ m = sym (same_method m o after (other ++ n ∷ more) parts) in
-    absurd (not_read m c d is bad (subst (λ (x : Member). HasReadCode x.code) same q.0))
-one_first (b ∷ before) [] m n after more c k d e parts p q is bad is_other bad_other =
-    let same : b ≡ n = same_method b n (before ++ m ∷ after) more parts in
-    absurd (not_read n k e is_other bad_other (subst (λ (x : Member). HasReadCode x.code) same p.0))
-one_first (b ∷ before) (o ∷ other) m n after more c k d e parts p q is bad is_other bad_other =
-    one_first before other m n after more c k d e (ap tail_of parts) p.1 q.1 is bad is_other bad_other
+    let parts : HaveReadCode (bad.before ++ bad.method ∷ bad.after) = subst HaveReadCode bad.parts h in
+    not_read bad.method bad.code d bad.is_code bad.bad (holds_between HasReadCode bad.before bad.method bad.after parts)
 
 one_bad_method : (methods : List Member) (d e : Defect) → HasFirstBadCode methods d → HasFirstBadCode methods e → d ≡ e
 one_bad_method methods d e p q =
-    let same = one_first p.before q.before p.method q.method p.after q.after p.code q.code d e (sym p.parts ∙ q.parts) p.read q.read p.is_code p.bad q.is_code q.bad in
+    let same = one_first HasReadCode p.before q.before p.method q.method p.after q.after (sym p.parts ∙ q.parts) p.read q.read
+    (not_read p.method p.code d p.is_code p.bad) (not_read q.method q.code e q.is_code q.bad) in
     let codes : Some p.code ≡ Some q.code = sym p.is_code ∙ ap (λ (m : Member). m.code) same ∙ q.is_code in
     let code : p.code ≡ q.code = cc in
     one_bad_code q.code d e (subst (λ (c : Code). IsBadCode c d) code p.bad) q.bad
@@ -108,7 +79,7 @@ pub read_or_bad : (bytes : List ℕ) (file : ClassFile) (d : Defect) → IsReadC
 read_or_bad bytes file d p (inl q) = file_or_fault bytes file q.at q.kind p.class q.fault
 read_or_bad bytes file d p (inr q) =
     let same = one_file bytes file q.file p.class q.class in
-    methods_or_bad q.file.methods d (subst (λ (f : ClassFile). AreRead f.methods) same p.codes) q.code
+    methods_or_bad q.file.methods d (subst (λ (f : ClassFile). HaveReadCode f.methods) same p.codes) q.code
 
 -- a bad class has one first defect
 pub one_defect : (bytes : List ℕ) (d e : Defect) → IsBadClass bytes d → IsBadClass bytes e → d ≡ e

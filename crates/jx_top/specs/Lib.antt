@@ -8,3 +8,4 @@ pub mod Assemblies
 pub mod Requests
 pub mod Steps
 pub mod StatusLines
+pub mod Finding

@@ -1,5 +1,8 @@
 -- When the bytes of a file are a class whose code is read, and what is wrong with those that are none.
-use Rattle.std.specs.Prelude.{◌≡◌, ℕ, ◌+◌, ◌⊎◌, List, ◌∷◌, ◌++◌, Option, Some, None, Result, Ok, Err}
+use Rattle.std.specs.Prelude.{◌≡◌, ℕ, ◌+◌, ◌⊎◌, List, [], ◌∷◌, ◌++◌, map, Option, Some, None, IfSome, Result, Ok, Err, Vec}
+use Rattle.std.specs.List.{AllByRecursion}
+use Rattle.std.specs.declared.alloc.Global.{Global}
+use Rattle.jx_base.specs.declared.class_file.Instr.{Instr}
 use Rattle.jx_base.specs.declared.class_file.ClassFile.{ClassFile}
 use Rattle.jx_base.specs.declared.class_file.Code.{Code}
 use Rattle.jx_base.specs.declared.class_file.Member.{Member}
@@ -7,11 +10,17 @@ use Rattle.jx_base.specs.declared.fault.ClassKind.{ClassKind}
 use Rattle.jx_base.specs.declared.fault.CodeKind.{CodeKind}
 use Rattle.class_grammar.specs.ClassGrammar.{IsClassFile, IsClassFault}
 use Rattle.class_grammar.specs.CodeGrammar.{IsCodeFault}
-use Rattle.linker_members.specs.ReadCode.{HasReadCode, HaveReadCode, IsReadCode}
+use Rattle.class_grammar.specs.ReadFiles.{IsReadCode}
+use Rattle.linker.specs.Bodies.{IsBody}
+use Rattle.linker_names.specs.Bodies.{instructions_of_code, instructions_of_member}
 use Rattle.jx_top.specs.declared.class_error.ClassError.{ClassError}
 use Rattle.jx_top.specs.declared.class_error.ClassError.TheVariants as error
 use Rattle.jx_top.specs.declared.defect.Defect.{Defect}
 use Rattle.jx_top.specs.declared.defect.DefectKind.TheVariants as defect
+
+-- the code of each method is read
+abbrev pub HaveReadCode : List Member → Type 0
+HaveReadCode methods = AllByRecursion (λ m. IfSome m.code IsReadCode) methods
 
 -- the bytes are the class file, and the code of each method is read
 pub record IsReadClass (bytes : List ℕ) (file : ClassFile) : Type 0 where
@@ -59,19 +68,24 @@ ReadsClass bytes (Ok file) = IsReadClass bytes file
 ReadsClass bytes (Err (error.Bad d)) = IsBadClass bytes d
 ReadsClass bytes (Err error.OutOfMemory) = Unit {0}
 
+-- the code of each method is read, and these are the instructions of each
+pub record AreBodies (methods : List Member) (bodies : List (List Instr)) : Type 0 where
+  pub read : HaveReadCode methods
+  pub bodies_are : bodies ≡ map instructions_of_member methods
+
 -- what the reading of the code of some methods came to
-abbrev pub ReadsMethods : List Member → Result (Unit {0}) ClassError → Type 0
-ReadsMethods methods (Ok u) = HaveReadCode methods
+abbrev pub ReadsMethods : List Member → Result (Vec (List Instr) Global) ClassError → Type 0
+ReadsMethods methods (Ok v) = AreBodies methods v.items
 ReadsMethods methods (Err (error.Bad d)) = HasFirstBadCode methods d
 ReadsMethods methods (Err error.OutOfMemory) = Unit {0}
 
 -- what the reading of code came to
-abbrev pub ReadsCode : Code → Result (Unit {0}) ClassError → Type 0
-ReadsCode code (Ok u) = IsReadCode code
+abbrev pub ReadsCode : Code → Result (List Instr) ClassError → Type 0
+ReadsCode code (Ok body) = IsBody code body
 ReadsCode code (Err (error.Bad d)) = IsBadCode code d
 ReadsCode code (Err error.OutOfMemory) = Unit {0}
 
 -- what the reading of the code of one method came to
-abbrev pub ReadsMethod : Option Code → Result (Unit {0}) ClassError → Type 0
-ReadsMethod None result = result ≡ Ok tt
+abbrev pub ReadsMethod : Option Code → Result (List Instr) ClassError → Type 0
+ReadsMethod None result = result ≡ Ok []
 ReadsMethod (Some code) result = ReadsCode code result

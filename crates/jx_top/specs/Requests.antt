@@ -3,17 +3,17 @@ use Rattle.std.specs.Prelude.{◌≡◌, ℕ, List, Option, Some, Result, Ok, Er
 use Rattle.jx_base.specs.Files.{Files}
 use Rattle.jx_base.specs.Puts.{SinkState, TookWhole, TookPrefix, TookNothing}
 use Rattle.jx_base.specs.declared.act.Act.TheVariants as act
-use Rattle.jx_base.specs.declared.class_file.ClassFile.{ClassFile}
 use Rattle.jx_base.specs.declared.program.System.{System}
 use Rattle.first_class.specs.ByNow.{IsFirstFile}
 use Rattle.jx_top.specs.Assemblies.{SaysBytes, HasGoodText, HasBadText}
-use Rattle.jx_top.specs.Commands.{Command, IsFileOf}
+use Rattle.jx_top.specs.Commands.{Command}
 use Rattle.jx_top.specs.Commands as command
 use Rattle.jx_top.specs.GotFiles.{IsGot, IsNotGot}
 use Rattle.jx_top.specs.Headline.{IsAuditOf}
 use Rattle.jx_top.specs.Outcomes.{Outcome}
 use Rattle.jx_top.specs.Outcomes as outcome
-use Rattle.jx_top.specs.Systems.{HasClass, IsSystemOf, IsStopped}
+use Rattle.jx_top.specs.Systems.{HasSystem, IsSystemOf, IsStopped}
+use Rattle.jx_top.specs.StatusLines.{counts_line}
 
 -- ---- what the files give
 
@@ -23,17 +23,20 @@ pub record HasFirstFile (files : Files) (file : List ℕ) : Type 0 where
   pub got : IsGot files file bytes
   pub first : IsFirstFile file bytes
 
--- the class of the file is got and read, and isn't run by now
-pub record HasOtherClass (files : Files) (file name : List ℕ) : Type 0 where
-  pub is_file_of : IsFileOf file name
-  pub class : ClassFile
-  pub has : HasClass files name class
+-- the file gives a system that isn't run by now
+pub record HasOtherSystem (files : Files) (file name : List ℕ) : Type 0 where
+  pub name_is : name ≡ file
+  pub system : HasSystem files file
   pub other : HasFirstFile files file → ⊥
 
 abbrev pub IsDueForRun : Files → List ℕ → Outcome → Type 0
 IsDueForRun files file outcome.Done = HasFirstFile files file
-IsDueForRun files file (outcome.NotYet n) = HasOtherClass files file n
+IsDueForRun files file (outcome.NotYet n) = HasOtherSystem files file n
 IsDueForRun files file o = IsStopped files file o
+
+abbrev pub IsDueForCheck : Files → List ℕ → Outcome → Type 0
+IsDueForCheck files file outcome.Done = HasSystem files file
+IsDueForCheck files file o = IsStopped files file o
 
 abbrev pub IsDueForAsm : Files → List ℕ → Outcome → Type 0
 IsDueForAsm files file outcome.Done = HasGoodText files file
@@ -43,6 +46,7 @@ IsDueForAsm files file o = IsNotGot files file o
 -- the outcome that the files give a command, where nothing of the outside fails: memory, shelf or sink
 abbrev pub IsDueFor : Files → Command → Outcome → Type 0
 IsDueFor files (command.Run file workers) o = IsDueForRun files file o
+IsDueFor files (command.Check file) o = IsDueForCheck files file o
 IsDueFor files (command.Asm file) o = IsDueForAsm files file o
 
 -- they give one at most
@@ -66,7 +70,11 @@ IsCaused files c o = IsDueFor files c o
 abbrev pub CanEnd : Command → Outcome → Type 0
 CanEnd c outcome.Usage = ⊥
 CanEnd (command.Run file workers) (outcome.BadAsm f) = ⊥
+CanEnd (command.Check file) (outcome.BadAsm f) = ⊥
+CanEnd (command.Check file) (outcome.NotYet n) = ⊥
+CanEnd (command.Asm file) (outcome.BadPlan f) = ⊥
 CanEnd (command.Asm file) (outcome.BadClass n d) = ⊥
+CanEnd (command.Asm file) (outcome.BadLink f) = ⊥
 CanEnd (command.Asm file) (outcome.NotYet n) = ⊥
 CanEnd c _ = Unit {0}
 
@@ -87,9 +95,16 @@ IsDecidedFor c told o = (files : Files) (due : Outcome) → told ≡ Some files 
 
 -- ---- what is put
 
--- the whole text of a command that ends so: the audit of a history that ends in quiet, or the class file of a text
+-- the text says how many classes and domains the system of the file has
+pub record SaysCounts (files : Files) (file text : List ℕ) : Type 0 where
+  pub system : System
+  pub of_file : IsSystemOf files file system
+  pub text_is : text ≡ counts_line system.plan
+
+-- the whole text of a command that ends so: the audit of a history that ends in quiet, the counts of a system, or the class file of a text
 abbrev pub IsTextOf : Files → Command → Outcome → List ℕ → Type 0
 IsTextOf files (command.Run file workers) outcome.Done text = IsAuditOf files file act.Quiet text
+IsTextOf files (command.Check file) outcome.Done text = SaysCounts files file text
 IsTextOf files (command.Asm file) outcome.Done text = SaysBytes files file text
 IsTextOf files c _ text = ⊥
 

@@ -4,20 +4,16 @@ use Rattle.std.specs.declared.alloc.Global.{Global}
 use Rattle.jx_base.specs.Files.{Files}
 use Rattle.jx_base.specs.Puts.{SinkState, TookWhole, TookPrefix, TookNothing}
 use Rattle.jx_base.specs.declared.act.History.{History}
-use Rattle.jx_base.specs.declared.class_file.ClassFile.{ClassFile}
 use Rattle.jx_base.specs.declared.program.System.{System}
 use Rattle.audit_model.specs.AuditText.{audit_text}
-use Rattle.first_class.specs.ByNow.{IsFirstFile, IsFirstRun}
-use Rattle.first_class.specs.FirstClass.{first_class}
+use Rattle.first_class.specs.ByNow.{IsFirstRun}
 use Rattle.jx_top.specs.Assemblies.{SaysBytes}
 use Rattle.jx_top.specs.Commands.{Command}
 use Rattle.jx_top.specs.Commands as command
 use Rattle.jx_top.specs.Outcomes.{Outcome, outcome_of}
 use Rattle.jx_top.specs.Outcomes as outcome
-use Rattle.jx_top.specs.ReadClasses.{IsReadClass, IsBadClass}
-use Rattle.jx_top.specs.Requests.{HasFirstFile, IsCaused, CanEnd}
+use Rattle.jx_top.specs.Requests.{IsCaused, CanEnd}
 use Rattle.jx_top.specs.declared.status.Status.{Status}
-use Rattle.jx_top.specs.declared.status.Status.TheVariants as status
 
 -- a command that ended before anything was put
 abbrev pub IsEarly : Outcome → Type 0
@@ -30,20 +26,6 @@ pub record StopsSo (c : Command) (told : Option Files) (o : Outcome) : Type 0 wh
   pub early : IsEarly o
   pub can_end : CanEnd c o
   pub where_told : (files : Files) → told ≡ Some files → IsCaused files c o
-
--- the class of the file, or why the run stops
-abbrev pub FindsClass : Option Files → List ℕ → Result ClassFile Status → Type 0
-FindsClass told file (Ok class) = (class ≡ first_class) × ((files : Files) → told ≡ Some files → HasFirstFile files file)
-FindsClass told file (Err s) = StopsSo (command.Run file 1) told (outcome_of s)
-
--- the class that the bytes of the file are, or why there is none
-abbrev pub HoldsClass : List ℕ → List ℕ → List ℕ → Result ClassFile Status → Type 0
-HoldsClass file name bytes (Ok class) = (class ≡ first_class) × IsFirstFile file bytes
-HoldsClass file name bytes (Err (status.BadClass n d)) = (string_bytes n ≡ name) × IsBadClass bytes d
-HoldsClass file name bytes (Err (status.NotYet n)) =
-    (string_bytes n ≡ name) × (class : ClassFile) × IsReadClass bytes class × (IsFirstFile file bytes → ⊥)
-HoldsClass file name bytes (Err status.OutOfMemory) = Unit {0}
-HoldsClass file name bytes (Err _) = ⊥
 
 -- the bytes that the file's text says, or why the assembly stops
 abbrev pub FindsText : Option Files → List ℕ → Result (Vec ℕ Global) Status → Type 0
@@ -69,3 +51,9 @@ PutsFirstAudit before now outcome.Done = (text : List ℕ) × IsFirstAudit text 
 PutsFirstAudit before now outcome.SinkFault = (text : List ℕ) × IsFirstAudit text × TookPrefix before text now
 PutsFirstAudit before now outcome.OutOfMemory = TookNothing before now
 PutsFirstAudit before now _ = ⊥
+
+-- the file isn't run by now, or memory was refused
+abbrev pub IsNotYet : List ℕ → Outcome → Type 0
+IsNotYet file (outcome.NotYet n) = n ≡ file
+IsNotYet file outcome.OutOfMemory = Unit {0}
+IsNotYet file _ = ⊥

@@ -4,18 +4,38 @@ use Rattle.jx_base.specs.Files.{Files}
 use Rattle.jx_base.specs.declared.class_file.ClassFile.{ClassFile}
 use Rattle.jx_base.specs.declared.program.Plan.{Plan}
 use Rattle.jx_base.specs.declared.program.System.{System}
-use Rattle.link_model.specs.LinkFaults.{IsLinked}
-use Rattle.system_text.specs.Description.{one_class_plan}
-use Rattle.jx_top.specs.Commands.{IsFileOf}
+use Rattle.link_model.specs.LinkFaults.{IsLinked, IsLinkFault}
+use Rattle.link_model.specs.declared.fault.LinkFault.{LinkFault}
+use Rattle.system_text.specs.Description.{Describes, IsPlanFault, one_class_plan}
+use Rattle.system_text.specs.declared.fault.PlanFault.{PlanFault}
+use Rattle.jx_top.specs.Commands.{EndsInClass, IsFileOf}
 use Rattle.jx_top.specs.GotFiles.{IsGot, IsNotGot}
 use Rattle.jx_top.specs.Outcomes.{Outcome}
 use Rattle.jx_top.specs.Outcomes as outcome
 use Rattle.jx_top.specs.ReadClasses.{IsReadClass, IsBadClass}
 use Rattle.jx_top.specs.declared.defect.Defect.{Defect}
 
--- the plan of the file word: of a word `X.class` that of the class alone
+-- the plan of the file word: of a word `X.class` that of the class alone, else the one that the file describes
 pub data IsPlanOf (files : Files) (file : List ℕ) (plan : Plan) : Type 0 where
   of_class : (name : List ℕ) → IsFileOf file name → plan ≡ one_class_plan name → IsPlanOf files file plan
+  of_text : (bytes : List ℕ) → (EndsInClass file → ⊥) → IsGot files file bytes → Describes bytes plan → IsPlanOf files file plan
+
+-- the file is got, and describes no plan
+pub record HasBadPlan (files : Files) (file : List ℕ) (f : PlanFault) : Type 0 where
+  pub no_class : EndsInClass file → ⊥
+  pub bytes : List ℕ
+  pub got : IsGot files file bytes
+  pub fault : IsPlanFault bytes f
+
+-- the file of a description isn't got, and the outcome says so
+pub record HasNoText (files : Files) (file : List ℕ) (o : Outcome) : Type 0 where
+  pub no_class : EndsInClass file → ⊥
+  pub not_got : IsNotGot files file o
+
+-- there is no plan of the file word, and the outcome says so
+abbrev pub IsPlanRefused : Files → List ℕ → Outcome → Type 0
+IsPlanRefused files file (outcome.BadPlan f) = HasBadPlan files file f
+IsPlanRefused files file o = HasNoText files file o
 
 -- the file of a class
 abbrev pub file_of_class : List ℕ → List ℕ
@@ -62,6 +82,26 @@ pub record IsSystemOf (files : Files) (file : List ℕ) (system : System) : Type
   pub have : HaveClasses files plan.classes classes
   pub linked : IsLinked plan classes system
 
--- There is none, and the outcome says what stops it: the first class that isn't got and read.
+-- there is such a system
+abbrev pub HasSystem : Files → List ℕ → Type 0
+HasSystem files file = (system : System) × IsSystemOf files file system
+
+-- the classes of the plan are got and read, and have that first fault of linking
+pub record HasBadLink (files : Files) (file : List ℕ) (f : LinkFault) : Type 0 where
+  pub plan : Plan
+  pub of_file : IsPlanOf files file plan
+  pub classes : List ClassFile
+  pub have : HaveClasses files plan.classes classes
+  pub fault : IsLinkFault plan classes f
+
+-- a class of the plan isn't got and read: the first such one
+pub record HasNoClass (files : Files) (file : List ℕ) (o : Outcome) : Type 0 where
+  pub plan : Plan
+  pub of_file : IsPlanOf files file plan
+  pub refused : HasRefusedClass files plan.classes o
+
+-- There is none, and the outcome says what stops it: the description, the first class that isn't got and read, or the first fault of linking.
 pub data IsStopped (files : Files) (file : List ℕ) (o : Outcome) : Type 0 where
-  at_class : (plan : Plan) → IsPlanOf files file plan → HasRefusedClass files plan.classes o → IsStopped files file o
+  at_plan : IsPlanRefused files file o → IsStopped files file o
+  at_class : HasNoClass files file o → IsStopped files file o
+  at_link : (f : LinkFault) → o ≡ outcome.BadLink f → HasBadLink files file f → IsStopped files file o

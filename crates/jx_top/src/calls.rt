@@ -8,9 +8,10 @@ ghost use Rattle.jx_top.specs.Outcomes.{outcome_of};
 ghost use Rattle.jx_top.specs.Requests.{HasCauseFor, IsDecidedFor, PutsFor};
 
 use crate::assembling::assemble_class;
-use crate::commands::{WordsFault, class_of, read_words};
+use crate::check::check_system;
+use crate::commands::{WordsFault, read_words};
 use crate::request::Request;
-use crate::run::run_class;
+use crate::run::run_system;
 use crate::status::Status;
 use jx_base::{Gate, Shelf, Sink};
 use std::alloc::Global;
@@ -29,11 +30,8 @@ fn serve<L: Shelf, K: Sink>(alloc: Global, request: &Request, shelf: &mut L, sin
     ensures sink { result ≡ Status.SinkFault → HasSinkFailed (K.state sink.old) (K.state sink.new) }
 {
     match request {
-        Request::Run { file, workers: _ } => match class_of(file.as_str()) {
-            Some(name) => run_class(alloc, file.as_str(), name, shelf, sink),
-            // The file of a serial run is that of a class.
-            None => unreachable!(),
-        },
+        Request::Run { file, workers: _ } => run_system(alloc, file.as_str(), shelf, sink),
+        Request::Check { file } => check_system(alloc, file.as_str(), shelf, sink),
         Request::Asm { file } => assemble_class(alloc, file.as_str(), shelf, sink),
     }
 }
@@ -70,7 +68,8 @@ pub fn jx_main<R: Threads + Wait + Sync, L: Shelf, K: Sink, G: Gate + Sync>(
     _gate: &G,
 ) -> Status
     // The headline: of a run, what is put is the audit of a complete legal history of the system
-    // that the files give; of an assembly it is the class file that the text says.
+    // that the files give; of a check it is how many classes and domains that system has; of an
+    // assembly it is the class file that the text says.
     ensures puts { (c : Command) → AsksFor (texts words.now) c
         → PutsFor c (L.state shelf.old).told
         (K.state sink.old) (K.state sink.new) (outcome_of result) }

@@ -1,8 +1,8 @@
 //! The words of the command line.
 ghost use Rattle.std.specs.Prelude.{◌≡◌, ◌≢◌, ◌++◌, ◌↔◌, ℕ, List, Some, None, IfOk, IsTrue};
 ghost use Rattle.std.specs.Prelude.{IsErrOf, MatchOption, MatchResult, string_bytes, codes};
-ghost use Rattle.jx_top.specs.Commands.{IsFileOf, IsClassFileName, AsksFor, AsksForRun};
-ghost use Rattle.jx_top.specs.Commands.{AsksForNoRun, AsksForAsm, AsksForNoAsm, AsksForNothing};
+ghost use Rattle.jx_top.specs.Commands.{IsFileOf, IsClassFileName, IsSystemName, AsksFor};
+ghost use Rattle.jx_top.specs.Commands.{AreVerbAndFile, AreVerbAndSystem, AsksForNothing};
 ghost use Rattle.jx_top.specs.Commands.{command_of, texts, is_dashes, is_option, plain_word};
 ghost use Rattle.jx_top.specs.Commands.{beside_dashes, place_word};
 
@@ -33,31 +33,13 @@ pub fn class_of(file: &str) -> Option<&str>
     }
 }
 
-fn is_run(verb: &String) -> bool
-    ensures { IsTrue result ↔ (string_bytes verb.now ≡ codes "run") }
+// Whether the file can be that of a system: a name that ends in `.class` is that of a class.
+fn is_system_file(file: &str) -> bool
+    ensures { IsTrue result ↔ IsSystemName file.now }
 {
-    verb.as_str() == "run"
-}
-
-fn is_asm(verb: &String) -> bool
-    ensures { IsTrue result ↔ (string_bytes verb.now ≡ codes "asm") }
-{
-    verb.as_str() == "asm"
-}
-
-// The file whose run the words ask for.
-fn file_to_run(words: &[String]) -> Option<&str>
-    ensures { MatchOption result (AsksForNoRun (texts words.now))
-        (λ file. AsksForRun (texts words.now) file.now) }
-{
-    match words {
-        [verb, file] => {
-            if !is_run(verb) || class_of(file.as_str()).is_none() {
-                return None;
-            }
-            Some(file.as_str())
-        }
-        _ => None,
+    match class_of(file) {
+        Some(_) => true,
+        None => !file.ends_with(".class"),
     }
 }
 
@@ -104,15 +86,16 @@ fn place_word(words: &[String]) -> Option<&str>
     }
 }
 
-// The file whose text the words want assembled.
-fn file_to_assemble(words: &[String]) -> Option<&str>
-    ensures { MatchOption result (AsksForNoAsm (texts words.now))
-        (λ file. AsksForAsm (texts words.now) file.now) }
+// The file behind the verb.
+fn file_behind<'a>(verb: &str, words: &'a [String]) -> Option<&'a str>
+    ensures { MatchOption result
+        ((file : List ℕ) → AreVerbAndFile verb.now (texts words.now) file → ⊥)
+        (λ file. AreVerbAndFile verb.now (texts words.now) file.now) }
 {
-    let [verb, rest @ ..] = words else {
+    let [first, rest @ ..] = words else {
         return None;
     };
-    if !is_asm(verb) {
+    if first.as_str() != verb {
         return None;
     }
     let file = place_word(rest)?;
@@ -120,6 +103,20 @@ fn file_to_assemble(words: &[String]) -> Option<&str>
         return None;
     }
     Some(file)
+}
+
+// The file of a system behind the verb.
+fn system_behind<'a>(verb: &str, words: &'a [String]) -> Option<&'a str>
+    ensures { MatchOption result
+        ((file : List ℕ) → AreVerbAndSystem verb.now (texts words.now) file → ⊥)
+        (λ file. AreVerbAndSystem verb.now (texts words.now) file.now) }
+{
+    let file = file_behind(verb, words)?;
+    if is_system_file(file) {
+        Some(file)
+    } else {
+        None
+    }
 }
 
 fn copy_of(alloc: Global, file: &str) -> Result<String, WordsFault>
@@ -134,11 +131,15 @@ pub fn read_words(alloc: Global, words: &[String]) -> Result<Request, WordsFault
     ensures request { IfOk result (λ request. AsksFor (texts words.now) (command_of request)) }
     ensures usage { IsErrOf result WordsFault.Usage ↔ AsksForNothing (texts words.now) }
 {
-    if let Some(file) = file_to_run(words) {
+    if let Some(file) = system_behind("run", words) {
         let file = copy_of(alloc, file)?;
         return Ok(Request::Run { file, workers: 1 });
     }
-    let Some(file) = file_to_assemble(words) else {
+    if let Some(file) = system_behind("check", words) {
+        let file = copy_of(alloc, file)?;
+        return Ok(Request::Check { file });
+    }
+    let Some(file) = file_behind("asm", words) else {
         return Err(WordsFault::Usage);
     };
     let file = copy_of(alloc, file)?;

@@ -23,6 +23,8 @@ pub fn fetch_bytes<L: Shelf>(alloc: Global, file: &str, shelf: &mut L) -> Result
         → FetchesBytes files file.now result }
     ensures short { IfOk result (λ bytes. length bytes.items ≤ longest_file) }
     ensures ends { IfErr result (λ status. CanFailFetch (outcome_of status)) }
+    ensures same { (L.state shelf.new).told ≡ (L.state shelf.old).told }
+    ensures later { (L.state shelf.old).faults ≤ (L.state shelf.new).faults }
     ensures cause { IsErrOf result Status.ShelfFault
         → HasShelfFailed (L.state shelf.old) (L.state shelf.new) }
 {

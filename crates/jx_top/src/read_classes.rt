@@ -1,21 +1,24 @@
 //! Reading a class with the code of its methods.
-ghost use Rattle.std.specs.Prelude.{◌≤◌, ◌<◌, ◌^◌, length};
+ghost use Rattle.std.specs.Prelude.{◌≤◌, ◌<◌, ◌^◌, IfOk, length};
+ghost use Rattle.class_grammar.specs.ReadFiles.{IsReadFile};
 ghost use Rattle.class_grammar.specs.ClassGrammar.{IsShortCode, HasShortCodes};
 ghost use Rattle.jx_top.specs.ReadClasses.{ReadsClass, ReadsMethods, ReadsMethod, ReadsCode};
 
 use crate::class_error::ClassError;
 use crate::defect::{Defect, DefectKind};
 use class_reader::{ReadFault, read_class};
-use code_reader::{CodeError, read_code};
-use jx_base::{ClassFile, Code, Member};
+use code_reader::CodeError;
+use jx_base::{Code, Instr, Listed, Member};
+use linker::read_body;
+use linker_names::ReadClass;
 use std::alloc::Global;
 
-fn read_one(alloc: Global, code: &Code) -> Result<(), ClassError>
+fn read_one(alloc: Global, code: &Code) -> Result<Listed<Instr>, ClassError>
     requires { length code.now.code < 2 ^ 16 }
     ensures { ReadsCode code.now result }
 {
-    match read_code(alloc, code.code.as_slice(), code.table.as_slice()) {
-        Ok(_) => Ok(()),
+    match read_body(alloc, code) {
+        Ok(body) => Ok(body),
         Err(CodeError::Bad(fault)) => Err(ClassError::Bad(Defect {
             at: u64::from(code.at) + u64::from(fault.pc),
             kind: DefectKind::Code(fault.kind),
@@ -24,35 +27,37 @@ fn read_one(alloc: Global, code: &Code) -> Result<(), ClassError>
     }
 }
 
-fn read_method(alloc: Global, code: &Option<Code>) -> Result<(), ClassError>
+fn read_method(alloc: Global, code: &Option<Code>) -> Result<Listed<Instr>, ClassError>
     requires { IsShortCode code.now }
     ensures { ReadsMethod code.now result }
 {
     match code {
-        None => Ok(()),
+        None => Ok(Listed::from_vec(Vec::new(alloc))),
         Some(code) => read_one(alloc, code),
     }
 }
 
-fn read_methods(alloc: Global, methods: &[Member]) -> Result<(), ClassError>
+fn read_methods(alloc: Global, methods: &[Member]) -> Result<Vec<Listed<Instr>>, ClassError>
     requires { HasShortCodes methods.now }
     ensures { ReadsMethods methods.now result }
 {
+    let mut bodies = Vec::with_capacity(alloc, methods.len())?;
     for method in methods {
-        read_method(alloc, &method.code)?;
+        bodies.push(read_method(alloc, &method.code)?)?;
     }
-    Ok(())
+    Ok(bodies)
 }
 
 /// The class that the bytes are, with code that is read.
-pub fn read_whole(alloc: Global, bytes: &[u8]) -> Result<ClassFile, ClassError>
+pub fn read_whole(alloc: Global, bytes: &[u8]) -> Result<ReadClass, ClassError>
     requires { length bytes.now ≤ 2 ^ 31 }
-    ensures { ReadsClass bytes.now result }
+    ensures class { ReadsClass bytes.now result }
+    ensures file { IfOk result IsReadFile }
 {
     match read_class(alloc, bytes) {
         Ok(file) => {
-            read_methods(alloc, file.methods.as_slice())?;
-            Ok(file)
+            let bodies = read_methods(alloc, file.methods.as_slice())?;
+            Ok(ReadClass::new(file, bodies))
         }
         Err(ReadFault::Bad(fault)) => Err(ClassError::Bad(Defect {
             at: u64::from(fault.at),

@@ -1,10 +1,16 @@
 //! How a command ends.
+ghost use Rattle.std.specs.Prelude.{◌≡◌};
+ghost use Rattle.jx_top.specs.declared.status.Status.TheVariants.{OutOfMemory};
 
 use crate::defect::Defect;
 use class_asm::AsmFault;
+use link_model::LinkFault;
+use std::alloc::{AllocError, AllocFailed};
+use system_text::PlanFault;
 
-/// How a command ended. `Missing` and `TooLong` carry the name of a file, `BadClass` and `NotYet`
-/// that of a class, `BadAsm` the first faulty line of a text.
+/// How a command ended. `Missing`, `TooLong` and `NotYet` carry the name of a file, `BadClass` that
+/// of a class; `BadPlan`, `BadLink` and `BadAsm` the first fault of a description, of linking, and
+/// of an assembler text.
 #[derive(Drop)]
 pub enum Status {
     Done,
@@ -12,9 +18,27 @@ pub enum Status {
     ShelfFault,
     Missing(String),
     TooLong(String),
+    BadPlan(PlanFault),
     BadClass(String, Defect),
+    BadLink(LinkFault),
     BadAsm(AsmFault),
     SinkFault,
     NotYet(String),
     OutOfMemory,
+}
+
+impl From<AllocError> for Status {
+    ghost from_gives = { λ _ status. status ≡ OutOfMemory };
+
+    fn from(_: AllocError) -> Status {
+        Status::OutOfMemory
+    }
+}
+
+impl<T: Drop> From<AllocFailed<T>> for Status {
+    ghost from_gives = { λ _ status. status ≡ OutOfMemory };
+
+    fn from(_: AllocFailed<T>) -> Status {
+        Status::OutOfMemory
+    }
 }

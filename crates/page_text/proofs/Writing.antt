@@ -1,13 +1,15 @@
 -- One text after another.
-use Rattle.std.specs.Prelude.{◌≡◌, ◌≤◌, ℕ, List, [], ◌∷◌, ◌++◌, Option, Some, None, Result, Ok, Err, refl}
+use Rattle.std.specs.Prelude.{◌≡◌, ◌≤◌, ℕ, Bool, List, [], ◌∷◌, ◌++◌, Option, Some, None, Result, Ok, Err, refl}
 use Rattle.std.proofs.Common.{ap, sym, subst, ◌∙◌, ◌<◌, ◌+◌, append_assoc, append-nil, add-one, arith, length, drop, get_or, drop-cons}
-use Rattle.std.specs.List.{flat_map}
+use Rattle.std.specs.List.{flat_map, list_all}
 use Rattle.std.proofs.lemmas.List.{drop_all}
 use Rattle.jx_base.specs.declared.sink.Failed.{Failed}
 use Rattle.jx_base.specs.Puts.{Puts, SinkState, with_bytes}
 use Rattle.jx_base.specs.Texts.{after_space, spaced}
 use Rattle.page_text.specs.declared.pieces.Piece.{Piece}
 use Rattle.page_text.specs.Pieces.{piece_text, spaced_piece, piece_texts}
+use Rattle.jx_base.specs.Texts.{is_printable}
+use Rattle.page_text.specs.Pieces.{shown, shown_unit}
 use Rattle.page_text.specs.Writes.{Output, Writes}
 
 with_bytes-append : (told : Option (List ℕ)) (a b : List ℕ) → with_bytes (with_bytes told a) b ≡ with_bytes told (a ++ b)
@@ -203,3 +205,8 @@ spaced-none (piece ∷ pieces) none = absurd (omega arith)
 
 pub completes_same : (rest more whole : List ℕ) {o0 o : Output} → rest ≡ more → Completes rest whole o0 o → Completes more whole o0 o
 completes_same rest more whole is so_far = λ o2 r q. so_far o2 r (rw is q)
+
+-- units written by whether all are printable are shown
+pub shown_so : (units : List ℕ) (plain : Bool) (before now : Output) (r : Result (Unit {0}) Failed) → plain ≡ list_all is_printable units
+    → Writes (flat_map (shown_unit plain) units) before now r → Writes (shown units) before now r
+shown_so units plain before now r e h = subst (λ (p : Bool). Writes (flat_map (shown_unit p) units) before now r) e h

@@ -1,22 +1,25 @@
 //! Pieces of text.
-ghost use Rattle.std.specs.Prelude.{◌≡◌, ◌<◌};
+ghost use Rattle.std.specs.Prelude.{◌≡◌, ◌<◌, true};
 ghost use Rattle.jx_base.specs.Puts.{Puts};
-ghost use Rattle.jx_base.specs.Texts.{hex_digit, unit_text, units_text, quoted, spaced};
-ghost use Rattle.std.specs.List.{flat_map};
-ghost use Rattle.page_text.specs.Pieces.{piece_text, piece_texts, spaced_piece, line_of};
+ghost use Rattle.jx_base.specs.Texts.{hex_digit, is_printable, unit_text, units_text, quoted, spaced};
+ghost use Rattle.std.specs.List.{flat_map, list_all};
+ghost use Rattle.page_text.specs.Pieces.{piece_text, piece_texts, shown, shown_unit};
+ghost use Rattle.page_text.specs.Pieces.{spaced_piece, line_of};
 ghost use Rattle.page_text.specs.Writes.{Writes};
 
 use crate::page::Page;
 use itoa::Buffer;
 use jx_base::{Failed, Sink};
 
-/// A piece of text: bytes as they are, a number in decimal, or a text of UTF-16 units in quotes.
+/// A piece of text: bytes as they are, a number in decimal, a text of UTF-16 units in quotes, or one
+/// that is shown as it is where all of it is printable.
 #[derive(Clone, Copy)]
 pub enum Piece<'a> {
     Plain(&'a str),
     Number(u64),
     Signed(i32),
     Quoted(&'a [u16]),
+    Shown(&'a [u16]),
 }
 
 fn hex(digit: u16) -> u8
@@ -72,6 +75,48 @@ fn write_quoted<K: Sink>(units: &[u16], page: &mut Page, sink: &mut K) -> Result
     page.write_byte(b'"', sink)
 }
 
+fn is_printable(unit: u16) -> bool
+    ensures { result ≡ is_printable unit }
+{
+    unit >= 32 && unit <= 126
+}
+
+fn are_printable(units: &[u16]) -> bool
+    ensures { result ≡ list_all is_printable units.now }
+{
+    units.iter().all(|unit| is_printable(*unit))
+}
+
+// Writes a unit as it is, or else as it stands within quotes.
+#[tactic(auto, unfolding(crate::specs::Pieces::shown_unit))]
+fn write_shown_unit<K: Sink>(
+    plain: bool,
+    unit: u16,
+    page: &mut Page,
+    sink: &mut K,
+) -> Result<(), Failed>
+    requires { plain ≡ true → unit < 256 }
+    ensures { Writes (shown_unit plain unit) (page.old, K.state sink.old)
+        (page.new, K.state sink.new) result }
+{
+    if plain {
+        page.write_byte(unit as u8, sink)
+    } else {
+        write_unit(unit, page, sink)
+    }
+}
+
+fn write_shown<K: Sink>(units: &[u16], page: &mut Page, sink: &mut K) -> Result<(), Failed>
+    ensures { Writes (shown units.now) (page.old, K.state sink.old)
+        (page.new, K.state sink.new) result }
+{
+    let plain = are_printable(units);
+    for unit in units {
+        write_shown_unit(plain, *unit, page, sink)?;
+    }
+    Ok(())
+}
+
 #[tactic(auto, unfolding(crate::specs::Pieces::piece_text))]
 fn write_piece<K: Sink>(piece: &Piece<'_>, page: &mut Page, sink: &mut K) -> Result<(), Failed>
     ensures { Writes (piece_text piece.now)
@@ -88,6 +133,7 @@ fn write_piece<K: Sink>(piece: &Piece<'_>, page: &mut Page, sink: &mut K) -> Res
             page.write(buffer.format(*n).as_bytes(), sink)
         }
         Piece::Quoted(units) => write_quoted(units, page, sink),
+        Piece::Shown(units) => write_shown(units, page, sink),
     }
 }
 

@@ -10,3 +10,4 @@ pub mod Fitting
 pub mod Capped
 pub mod Places
 pub mod InRange
+pub mod OneClassPlan

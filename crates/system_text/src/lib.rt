@@ -15,5 +15,5 @@ mod value_faults;
 mod values;
 
 pub use fault::{PlanError, PlanFault};
-pub use laws::plan_is_in_range;
+pub use laws::{one_class_is_in_range, plan_is_in_range};
 pub use read::{one_class, read_system};

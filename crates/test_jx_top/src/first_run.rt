@@ -2,6 +2,7 @@
 
 use crate::assemblies::ASSEMBLIES;
 use crate::bad_classes::BAD_CLASSES;
+use crate::systems::SYSTEMS;
 use first_class::FIRST_CLASS;
 use jx_base::{MemoryShelf, MemorySink, OpenGate, OutOfMemory};
 use jx_top::{Request, Status, jx_main, jx_serial, status_line, status_number};
@@ -65,8 +66,8 @@ static RUNS: [Case; 18] = [
         &["run", "Other.class"],
         ("Other.class", 191, b""),
         &[],
-        99,
-        "jx: not yet Other\n",
+        7,
+        "jx: bad link Other kind 9 Hello\n",
         "",
     ),
     (&[], ("Hello.class", 191, b""), &[], 2, "jx: usage\n", ""),
@@ -154,16 +155,16 @@ static RUNS: [Case; 18] = [
         &["run", "jx.class"],
         ("jx.class", 191, b""),
         &[],
-        99,
-        "jx: not yet jx\n",
+        7,
+        "jx: bad link jx kind 9 Hello\n",
         "",
     ),
     (
         &["run", "a/B_$9.class"],
         ("a/B_$9.class", 191, b""),
         &[],
-        99,
-        "jx: not yet a/B_$9\n",
+        7,
+        "jx: bad link a/B_$9 kind 9 Hello\n",
         "",
     ),
 ];
@@ -222,6 +223,7 @@ fn ends_as_the_words_the_shelf_and_the_sink_would_have_it(rt: HostRuntime) -> Re
         (1000, 9, RUNS.as_slice()),
         (1000, 9, ASSEMBLIES.as_slice()),
         (1000, 9, BAD_CLASSES.as_slice()),
+        (1000, 9, SYSTEMS.as_slice()),
         (0, 9, NOTHING_PUT.as_slice()),
         (100, 9, FRONT_PUT.as_slice()),
         (1000, 0, NOTHING_PUT.as_slice()),

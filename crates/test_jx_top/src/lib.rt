@@ -9,3 +9,5 @@ mod bad_classes;
 mod first_run;
 #[cfg(test)]
 mod forms;
+#[cfg(test)]
+mod systems;

@@ -1,3 +1,0 @@
-pub mod KnownSelectors
-pub mod SourcesByClass
-pub mod ReadSources

@@ -1,2 +1,0 @@
-pub mod ReadCode
-pub mod Members
