@@ -36,6 +36,7 @@ use Rattle.jx_model.proofs.WellMadeTest.{well_made_test}
 use Rattle.machine_laws.specs.Values.{IsValueIn, IsValueInSome, IsUnitValue, IsStoreIn, cell_limit}
 use Rattle.machine_model.specs.Conditions.{IsTextIfObject}
 use Rattle.machine_laws.specs.Sound.{IsSound}
+use Rattle.machine_laws.specs.Called.{HasReceiver, FitsCall}
 use Rattle.machine_laws.proofs.Lists.{all_append, all_get, all_map, all_found}
 use Rattle.machine_laws.proofs.NumericValues.{then_some, built_in_class}
 use Rattle.machine_laws.proofs.Ranges.{low_char_is, int_is_long}
@@ -53,18 +54,6 @@ IsNativeIn s past before (Performs a) = IsWellMade s past a
 IsNativeIn s past before (Raises c) = IsClass s c
 IsNativeIn s past before HasNoRoom = Unit {0}
 IsNativeIn s past before Unfit = Unit {0}
-
--- the arguments with an object in front fit, and the object is below the method's class
-pub record HasReceiver (s : System) (store : Store) (c : ℕ) (types : List (List ℕ)) (args : List Value) : Type 0 where
-  pub object : Value
-  pub others : List Value
-  pub is : args ≡ object ∷ others
-  pub fit : all_fit s true store others types ≡ true
-  pub below : (r a : ℕ) → object ≡ value.Ref r → class_of_object store r ≡ Some a → is_below s a c ≡ true
-
--- the arguments fit, all or behind an object
-abbrev pub Fits : System → Store → ℕ → List (List ℕ) → List Value → Type 0
-Fits s store c types args = (all_fit s true store args types ≡ true) ⊎ HasReceiver s store c types args
 
 -- the type of String
 abbrev pub string_type : List ℕ
@@ -109,7 +98,7 @@ string_fits s store (value.Mem m) z h = tt
 -- ---- arguments by their count
 
 -- one argument for one type, which fits it
-one_fits : (s : System) (store : Store) (c : ℕ) (t : List ℕ) (v : Value) → Fits s store c (t ∷ []) (v ∷ []) → shape_fits s true (shape_of store v) t ≡ true
+one_fits : (s : System) (store : Store) (c : ℕ) (t : List ℕ) (v : Value) → FitsCall s store c (t ∷ []) (v ∷ []) → shape_fits s true (shape_of store v) t ≡ true
 unfolding all_fit
 one_fits s store c t v (inl h) = (both (shape_fits s true (shape_of store v) t) true h).0
 one_fits s store c t v (inr x) = none x.others (let e : v ∷ [] ≡ x.object ∷ x.others = x.is in let q : x.others ≡ [] = cc in q) x.fit
@@ -123,7 +112,7 @@ pub record IsOnObject (s : System) (store : Store) (c : ℕ) (o v : Value) (t : 
   pub below : (r a : ℕ) → o ≡ value.Ref r → class_of_object store r ≡ Some a → is_below s a c ≡ true
   pub fit : shape_fits s true (shape_of store v) t ≡ true
 
-two_fit : (s : System) (store : Store) (c : ℕ) (t : List ℕ) (o v : Value) → Fits s store c (t ∷ []) (o ∷ v ∷ []) → IsOnObject s store c o v t
+two_fit : (s : System) (store : Store) (c : ℕ) (t : List ℕ) (o v : Value) → FitsCall s store c (t ∷ []) (o ∷ v ∷ []) → IsOnObject s store c o v t
 unfolding all_fit
 two_fit s store c t o v (inl h) = let q : false ≡ true = (both (shape_fits s true (shape_of store o) t) false h).1 in cc
 two_fit s store c t o v (inr x) =
@@ -136,7 +125,7 @@ two_fit s store c t o v (inr x) =
     }
 
 -- an object below the class, and no argument
-alone_fits : (s : System) (store : Store) (c : ℕ) (o : Value) → Fits s store c [] (o ∷ []) → (r a : ℕ) → o ≡ value.Ref r → class_of_object store r ≡ Some a → is_below s a c ≡ true
+alone_fits : (s : System) (store : Store) (c : ℕ) (o : Value) → FitsCall s store c [] (o ∷ []) → (r a : ℕ) → o ≡ value.Ref r → class_of_object store r ≡ Some a → is_below s a c ≡ true
 unfolding all_fit
 alone_fits s store c o (inl h) r a i k = cc
 alone_fits s store c o (inr x) r a i k = let e : o ∷ [] ≡ x.object ∷ x.others = x.is in let p : x.object ≡ o = cc in x.below r a (p ∙ i) k
@@ -289,7 +278,7 @@ module _ (s : System) (past : Past) (store : Store) (z : IsSound s) (h : IsStore
   identity_in (a ∷ []) = tt
   identity_in (a ∷ b ∷ c ∷ more) = tt
 
-  message_in : (c : ℕ) (args : List Value) → 3 ≤ c → AllByRecursion V args → Fits s store c (string_type ∷ []) args → N (message_constructor s store args)
+  message_in : (c : ℕ) (args : List Value) → 3 ≤ c → AllByRecursion V args → FitsCall s store c (string_type ∷ []) args → N (message_constructor s store args)
   unfolding message_constructor
   message_in c (value.Ref r ∷ v ∷ []) l i f =
       let t = two_fit s store c string_type (value.Ref r) v f in
@@ -358,7 +347,7 @@ module _ (s : System) (past : Past) (store : Store) (z : IsSound s) (h : IsStore
       by None e q = cc
       by (Some a) e q = ap (λ (k : ℕ). Some k) (z.builders a (below a e))
 
-  concatenation_in : (args : List Value) → AllByRecursion V args → Fits s store string_class (string_type ∷ []) args → N (text_concatenation s store args)
+  concatenation_in : (args : List Value) → AllByRecursion V args → FitsCall s store string_class (string_type ∷ []) args → N (text_concatenation s store args)
   unfolding text_concatenation
   concatenation_in (value.Ref r ∷ value.Null ∷ []) i f = null_class
   concatenation_in (value.Ref r ∷ value.Ref o ∷ []) i f =
@@ -386,7 +375,7 @@ module _ (s : System) (past : Past) (store : Store) (z : IsSound s) (h : IsStore
       two_is_not_one : Some builder_class ≡ Some string_class → ⊥
       two_is_not_one q = let p : builder_class ≡ string_class = cc in omega (arith, p)
 
-  builder_in : (args : List Value) → AllByRecursion V args → Fits s store builder_class [] args → N (builder_constructor s store args)
+  builder_in : (args : List Value) → AllByRecursion V args → FitsCall s store builder_class [] args → N (builder_constructor s store args)
   unfolding builder_constructor
   builder_in (value.Ref b ∷ []) i f =
       new_text_in [] (λ new x. Gives (with_cell new b 0 (value.Ref x)) None) tt
@@ -395,7 +384,7 @@ module _ (s : System) (past : Past) (store : Store) (z : IsSound s) (h : IsStore
 
   -- what is appended is of units
   append_in : (more : Store → Value → List ℕ) (t : List ℕ) (args : List Value) → ((v : Value) → V v → shape_fits s true (shape_of store v) t ≡ true → Units (more store v)) →
-      AllByRecursion V args → Fits s store builder_class (t ∷ []) args → N (append_of more s store args)
+      AllByRecursion V args → FitsCall s store builder_class (t ∷ []) args → N (append_of more s store args)
   unfolding append_of result_value
   append_in more t (value.Ref b ∷ v ∷ []) g i f = by (slice_get (cells_of store b) 0) refl
     where
@@ -457,7 +446,7 @@ module _ (s : System) (past : Past) (store : Store) (z : IsSound s) (h : IsStore
   unfolding is_short
   short_text units u e = record { short = grind (arith, nat_tests, e); sixteen_bits = u }
 
-  text_act_in : (f : List ℕ → Act) (c : ℕ) (args : List Value) → ((units : List ℕ) → IsText units → IsWellMade s past (f units)) → AllByRecursion V args → Fits s store c (string_type ∷ []) args → N (text_act f s store args)
+  text_act_in : (f : List ℕ → Act) (c : ℕ) (args : List Value) → ((units : List ℕ) → IsText units → IsWellMade s past (f units)) → AllByRecursion V args → FitsCall s store c (string_type ∷ []) args → N (text_act f s store args)
   unfolding text_act
   text_act_in f c (value.Null ∷ []) w i k = null_class
   text_act_in f c (value.Ref r ∷ []) w i k = act_if_in (is_short (text_of store r)) range_exception (f (text_of store r)) range_class
@@ -596,7 +585,7 @@ module _ (s : System) (past : Past) (store : Store) (z : IsSound s) (h : IsStore
 
   -- what a method of that class does is in order, with arguments that fit
   abbrev EffectIn : ℕ → BuiltInMethod → Type 0
-  EffectIn c m = (args : List Value) → AllByRecursion V args → Fits s store c (parameter_types m.descriptor) args → N (m.effect s store args)
+  EffectIn c m = (args : List Value) → AllByRecursion V args → FitsCall s store c (parameter_types m.descriptor) args → N (m.effect s store args)
 
   object_list : AllByRecursion (EffectIn object_class) object_effects
   unfolding object_effects built_in_method
@@ -737,7 +726,7 @@ module _ (s : System) (past : Past) (store : Store) (z : IsSound s) (h : IsStore
       by false q e again = again e
 
   -- a built-in method of the system, with arguments that fit its descriptor
-  pub native_in : (k : Method) (args : List Value) → AllByRecursion V args → ((x : Selector) → selector_at s k.selector.0 ≡ Some x → Fits s store k.class.0 (parameter_types x.descriptor) args) → N (built_in_outcome s store k args)
+  pub native_in : (k : Method) (args : List Value) → AllByRecursion V args → ((x : Selector) → selector_at s k.selector.0 ≡ Some x → FitsCall s store k.class.0 (parameter_types x.descriptor) args) → N (built_in_outcome s store k args)
   unfolding built_in_outcome is_of
   native_in k args i f = by (option_and_then (λ x. find (is_of x) (effects_of k.class.0)) (selector_at s k.selector.0)) refl
     where
@@ -747,4 +736,4 @@ module _ (s : System) (past : Past) (store : Store) (z : IsSound s) (h : IsStore
           let x = then_some (selector_at s k.selector.0) (λ x. find (is_of x) (effects_of k.class.0)) m e in
           let same : m.descriptor ≡ x.0.descriptor = (bytes_eq-Decides m.descriptor x.0.descriptor).0 (both (bytes_eq m.name x.0.name) (bytes_eq m.descriptor x.0.descriptor) (found_passes (is_of x.0) (effects_of k.class.0) m x.2)).1 in
           all_found (EffectIn k.class.0) (is_of x.0) (effects_of k.class.0) m x.2 (effects_list k.class.0) args i
-          (subst (λ (d : List ℕ). Fits s store k.class.0 (parameter_types d) args) (sym same) (f x.0 x.1))
+          (subst (λ (d : List ℕ). FitsCall s store k.class.0 (parameter_types d) args) (sym same) (f x.0 x.1))

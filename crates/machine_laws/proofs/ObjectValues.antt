@@ -60,7 +60,8 @@ use Rattle.std.proofs.lemmas.List.{length-replicate}
 use Rattle.machine_laws.proofs.Ranges.{low_bits_8, low_bits_16, low_char_fits}
 use Rattle.machine_laws.proofs.Stores.{IsLater, later_itself, later_on, IsMade, AreCellsOf, MayStand, new_object_in, new_array_in, default_in, default_text, default_cells_in, with_cell_in, with_same_objects, cells_in, cells_small, object_there, grows_to, values_grow, frames_grow}
 use Rattle.machine_laws.proofs.Packing.{packed_in}
-use Rattle.machine_laws.proofs.Natives.{Units, text_cells_in, named_class, native_in, IsNativeIn, Fits, string_fits}
+use Rattle.machine_laws.proofs.Natives.{Units, text_cells_in, named_class, native_in, IsNativeIn, string_fits}
+use Rattle.machine_laws.specs.Called.{FitsCall}
 use Rattle.std.specs.Option.{option_and_then, option_map, unwrap_or}
 
 -- what a row on objects comes to, from a store
@@ -788,7 +789,7 @@ module _ (s : System) (past : Past) (core : Core) (z : IsSound s) (fs : AllByRec
 
   -- how the arguments of a built-in method fit, where its class is no interface
   abbrev pub NativeFits : Method → List Value → Type 0
-  NativeFits k args = k.class.0 < built_in_count → is_interface s k.class.0 ≡ false → (y : Selector) → selector_at s k.selector.0 ≡ Some y → Fits s core.store k.class.0 (parameter_types y.descriptor) args
+  NativeFits k args = k.class.0 < built_in_count → is_interface s k.class.0 ≡ false → (y : Selector) → selector_at s k.selector.0 ≡ Some y → FitsCall s core.store k.class.0 (parameter_types y.descriptor) args
 
   pub any_native : (k : Method) (args : List Value) → Vs args → k.class.0 < built_in_count → NativeFits k args → IsNativeIn s past core.store (built_in_outcome s core.store k args)
   any_native k args i l f = by (is_interface s k.class.0) refl

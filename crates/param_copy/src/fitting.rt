@@ -1,47 +1,42 @@
 //! Which parcels fit a domain.
 ghost use Rattle.std.specs.Prelude.{◌≡◌, map, replicate, length};
-ghost use Rattle.program_model.specs.Lookup.{fits_type, object_fits, PortalShape};
 ghost use Rattle.program_model.specs.Parcels.{cell_fits, cells_fit, node_fits, fits_domain};
+ghost use Rattle.program_model.specs.Parcels.{shape_of_word};
+ghost use Rattle.program_types.specs.Shapes.{shape_state};
 
-use crate::classes::{class_of_type, fits_type, knows_class};
-use crate::types::{CHAR, is_int_type, is_long_type, is_reference_type, lies_in_type};
 use jx_base::{Field, Node, Parcel, System, Word};
+use program_types::{CHAR, MEMORY, STRING, Shape, knows_class, lies_in_type, shape_fits};
 
-const STRING_CLASS: usize = 1;
-
-const PORTAL_CLASS: usize = 18;
-
-const MEMORY_CLASS: usize = 20;
-
-// Whether a portal of that interface fits the type.
-#[tactic(auto, unfolding(program_model::specs::Lookup::object_fits, jx_base::specs::Basics::is_number, program_model::specs::BuiltIn::portal_class))]
-fn portal_fits(system: &System, iface: usize, kind: &[u16]) -> bool
-    ensures { result ≡ object_fits system.now (PortalShape iface) kind.now }
+// What of a word decides which types it fits.
+#[tactic(auto, unfolding(program_model::specs::Parcels::shape_of_word, program_model::specs::BuiltIn::memory_class))]
+fn shape_of_word(nodes: &[Node], word: Word) -> Shape
+    ensures { shape_state result ≡ shape_of_word nodes.now word }
 {
-    if fits_type(system, iface, kind) {
-        return true;
-    }
-    match class_of_type(system, kind) {
-        Some(class) => class == PORTAL_CLASS,
-        None => false,
+    match word {
+        Word::Int(number) => Shape::Int(number),
+        Word::Long(_) => Shape::Long,
+        Word::Null => Shape::Null,
+        Word::Portal(_, iface) => Shape::Portal(iface.0),
+        Word::Mem(_) => Shape::Object(MEMORY.0),
+        Word::Node(place) => match nodes.get(place as usize) {
+            Some(node) => Shape::Object(node.class.0),
+            None => Shape::Unknown,
+        },
     }
 }
 
 // Whether the word fits a cell of that type.
-#[tactic(auto, unfolding(program_model::specs::Parcels::cell_fits, program_model::specs::Parcels::shape_of_word, program_model::specs::Parcels::lies_in_cell, program_model::specs::Lookup::shape_fits, program_model::specs::Lookup::object_fits, program_model::specs::BuiltIn::memory_class))]
+#[tactic(auto, unfolding(program_model::specs::Parcels::cell_fits, program_model::specs::Parcels::lies_in_cell))]
 fn cell_fits(system: &System, nodes: &[Node], word: Word, kind: &[u16]) -> bool
     ensures { result ≡ cell_fits system.now nodes.now word kind.now }
 {
-    match word {
-        Word::Int(number) => is_int_type(kind) && lies_in_type(number, kind),
-        Word::Long(_) => is_long_type(kind),
-        Word::Null => is_reference_type(kind),
-        Word::Portal(_, iface) => portal_fits(system, iface.0 as usize, kind),
-        Word::Mem(_) => fits_type(system, MEMORY_CLASS, kind),
-        Word::Node(place) => match nodes.get(place as usize) {
-            Some(node) => fits_type(system, node.class.0 as usize, kind),
-            None => false,
-        },
+    let shape = shape_of_word(nodes, word);
+    if !shape_fits(system, false, shape, kind) {
+        return false;
+    }
+    match shape {
+        Shape::Int(number) => lies_in_type(number, kind),
+        _ => true,
     }
 }
 
@@ -94,7 +89,7 @@ fn node_fits(system: &System, template: u32, nodes: &[Node], node: &Node) -> boo
     let cells = node.cells.as_slice();
     match &found.component {
         Some(component) => elements_fit(system, nodes, cells, component.as_slice()),
-        None if class == STRING_CLASS => elements_fit(system, nodes, cells, &[CHAR]),
+        None if class == STRING.0 as usize => elements_fit(system, nodes, cells, &[CHAR]),
         None => fields_fit(system, nodes, cells, found.fields.as_slice()),
     }
 }

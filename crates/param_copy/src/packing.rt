@@ -5,7 +5,7 @@ ghost use Rattle.std.specs.List.{All, position};
 ghost use Rattle.program_model.specs.Parcels.{word_of, nodes_of, packed};
 ghost use Rattle.param_copy.specs.Copies.{IsPlaced, AreClosed, ArePlaced};
 
-use crate::exports::export_of;
+use crate::exports::Exports;
 use crate::fault::PackFault;
 use crate::walking::walk_of;
 use domain_heap::Heap;
@@ -14,7 +14,7 @@ use jx_base::{Cells, Exported, Listed, Node, Nodes, OutOfMemory, Parcel, Value, 
 use std::alloc::Global;
 
 // A value as a word: a reference is its place in the walk, or the portal of an exported object.
-fn word_of(exports: &[Exported], walk: &IndexSet<u32>, value: Value) -> Word
+fn word_of(exports: &Exports<'_>, walk: &IndexSet<u32>, value: Value) -> Word
     requires { length walk.now.keys ≤ 1024 }
     ensures { result ≡ word_of exports.now walk.now.keys value }
 {
@@ -24,7 +24,7 @@ fn word_of(exports: &[Exported], walk: &IndexSet<u32>, value: Value) -> Word
         Value::Null => Word::Null,
         Value::Portal(service, iface) => Word::Portal(service, iface),
         Value::Mem(object) => Word::Mem(object),
-        Value::Ref(object) => match export_of(exports, object) {
+        Value::Ref(object) => match exports.export_of(object) {
             Some(export) => Word::Portal(export.service, export.iface),
             None => Word::Node(place_of(walk, object)),
         },
@@ -45,7 +45,7 @@ fn place_of(walk: &IndexSet<u32>, object: u32) -> u32
 // Values as words.
 fn words_of(
     alloc: Global,
-    exports: &[Exported],
+    exports: &Exports<'_>,
     walk: &IndexSet<u32>,
     values: &[Value],
 ) -> Result<Cells, OutOfMemory>
@@ -63,7 +63,7 @@ fn words_of(
 fn nodes_of(
     alloc: Global,
     heap: &Heap,
-    exports: &[Exported],
+    exports: &Exports<'_>,
     walk: &IndexSet<u32>,
 ) -> Result<Nodes, OutOfMemory>
     requires small { length walk.now.keys ≤ 1024 }
@@ -83,13 +83,11 @@ fn nodes_of(
     Ok(Listed::from_vec(nodes))
 }
 
-/// The parcel of the values: their words, and a node for each object that they reach, once, but for
-/// exported ones. The walk ends as soon as the parcel is known to have over 1,024 nodes or 4,096
-/// words, which is `TooMany`, whatever else the heap has.
-pub fn pack(
+// The parcel of the values.
+fn parcel_of(
     alloc: Global,
     heap: &Heap,
-    exports: &[Exported],
+    exports: &Exports<'_>,
     roots: &[Value],
 ) -> Result<Parcel, PackFault>
     requires roots { All (IsPlaced (length heap.now.objects)) roots.now }
@@ -107,4 +105,25 @@ pub fn pack(
         roots: words,
         nodes,
     })
+}
+
+/// The parcel of the values: their words, and a node for each object that they reach, once, but for
+/// exported ones. The walk ends as soon as the parcel is known to have over 1,024 nodes or 4,096
+/// words, which is `TooMany`, whatever else the heap has.
+pub fn pack(
+    alloc: Global,
+    heap: &Heap,
+    exports: &[Exported],
+    roots: &[Value],
+) -> Result<Parcel, PackFault>
+    requires roots { All (IsPlaced (length heap.now.objects)) roots.now }
+    requires objects { AreClosed heap.now.objects }
+    ensures packed { IfOk result
+        (λ parcel. packed heap.now.objects exports.now roots.now ≡ Some parcel) }
+    ensures refused { IsErrOf result PackFault.TooMany
+        → packed heap.now.objects exports.now roots.now ≡ None }
+    ensures places { IfOk result ArePlaced }
+{
+    let table = Exports::new(alloc, exports)?;
+    parcel_of(alloc, heap, &table, roots)
 }

@@ -5,11 +5,11 @@ ghost use Rattle.jx_base.specs.Basics.{firsts};
 ghost use Rattle.program_model.specs.Parcels.{references_of, walk_of, packed};
 ghost use Rattle.param_copy.specs.Copies.{IsPlaced, AreClosed, is_small_walk};
 
-use crate::exports::reference_of;
+use crate::exports::Exports;
 use crate::fault::PackFault;
 use domain_heap::Heap;
 use indexmap::IndexSet;
-use jx_base::{Exported, OutOfMemory, Value};
+use jx_base::{OutOfMemory, Value};
 use std::alloc::Global;
 
 // The nodes of a parcel, at most.
@@ -21,14 +21,14 @@ const PARCEL_LIMIT: usize = 4096;
 // Adds the objects that the values refer to, but for exported ones, behind those that were met before.
 fn add_references(
     walk: &mut IndexSet<u32>,
-    exports: &[Exported],
+    exports: &Exports<'_>,
     values: &[Value],
 ) -> Result<(), OutOfMemory>
     ensures { OnOk result ((mentioned : List ℕ) → walk.old.keys ≡ firsts mentioned
         → walk.new.keys ≡ firsts (mentioned ++ references_of exports.now values.now)) }
 {
     for value in values {
-        if let Some(object) = reference_of(exports, *value) {
+        if let Some(object) = exports.reference_of(*value) {
             walk.insert(object)?;
         }
     }
@@ -40,7 +40,7 @@ fn add_references(
 pub fn walk_of(
     alloc: Global,
     heap: &Heap,
-    exports: &[Exported],
+    exports: &Exports<'_>,
     roots: &[Value],
 ) -> Result<IndexSet<u32>, PackFault>
     requires roots { All (IsPlaced (length heap.now.objects)) roots.now }

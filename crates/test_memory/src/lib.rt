@@ -20,4 +20,6 @@ mod pool;
 #[cfg(test)]
 mod pools;
 #[cfg(test)]
+mod supers;
+#[cfg(test)]
 mod systems;

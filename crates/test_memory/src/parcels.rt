@@ -7,37 +7,37 @@ use crate::packed::packed;
 use crate::parcel_text::parcel_text;
 use domain_heap::Heap;
 use jx_base::Value::{Int, Long, Mem, Null, Portal, Ref};
-use jx_base::{ClassId, Exported, ObjectId, Parcel, ServiceId, Value};
+use jx_base::{ClassId, Exported, ObjectId, OutOfMemory, Parcel, ServiceId, Value};
 use param_copy::{UnpackFault, unpack};
 use std::alloc::Global;
 use std::test::Fail;
 
+// An exported object, its service and its interface.
+type Export = (u32, u32, u32);
+
 // The objects of a heap, those that are exported, the roots, and the parcel.
 type Case = (
     &'static [Object],
-    &'static [Exported],
+    &'static [Export],
     &'static [Value],
     &'static str,
 );
 
-const OBJECT_4_TWICE: [Exported; 2] = [
-    Exported {
-        object: 4,
-        service: ServiceId(7),
-        iface: ClassId(40),
-    },
-    Exported {
-        object: 4,
-        service: ServiceId(5),
-        iface: ClassId(41),
-    },
-];
+const OBJECT_4_TWICE: [Export; 2] = [(4, 7, 40), (4, 5, 41)];
 
-const OBJECT_1: [Exported; 1] = [Exported {
-    object: 1,
-    service: ServiceId(9),
-    iface: ClassId(42),
-}];
+const OBJECT_1: [Export; 1] = [(1, 9, 42)];
+
+// Object 2 three times, by its least service neither first nor last.
+const MANY: [Export; 8] = [
+    (6, 1, 40),
+    (2, 11, 41),
+    (3, 4, 42),
+    (2, 3, 43),
+    (5, 2, 44),
+    (2, 7, 45),
+    (3, 9, 46),
+    (4, 6, 47),
+];
 
 const PORTAL_HOME: Value = Portal(ServiceId(9), ClassId(42));
 
@@ -45,7 +45,7 @@ const OTHER_PORTAL: Value = Portal(ServiceId(8), ClassId(40));
 
 const MEMORY: Value = Mem(ObjectId(3));
 
-static COPIES: [Case; 8] = [
+static COPIES: [Case; 9] = [
     (
         &[],
         &[],
@@ -112,15 +112,40 @@ static COPIES: [Case; 8] = [
         &[PORTAL_HOME, MEMORY, Ref(0), OTHER_PORTAL],
         "roots: p9:42 m3 @0 p8:40 | 30: m3",
     ),
+    // An object that is exported three times, among other exports.
+    (
+        &[
+            (30, &[Ref(2), Ref(1)]),
+            (31, &[Ref(3), Ref(2)]),
+            (32, &[Ref(1)]),
+            (33, &[]),
+        ],
+        &MANY,
+        &[Ref(2), Ref(0), Ref(2), Ref(3)],
+        "roots: p3:43 @0 p3:43 p4:42 | 30: p3:43 @1 | 31: p4:42 p3:43",
+    ),
 ];
 
 static BEFORE: [Object; 2] = [(60, &[Ref(1)]), (61, &[Ref(0)])];
+
+fn exports_of(alloc: Global, exports: &[Export]) -> Result<Vec<Exported>, OutOfMemory> {
+    let mut made = Vec::new(alloc);
+    for (object, service, iface) in exports {
+        made.push(Exported {
+            object: *object,
+            service: ServiceId(*service),
+            iface: ClassId(*iface),
+        })?;
+    }
+    Ok(made)
+}
 
 fn parcel_of(alloc: Global, case: &Case) -> Result<Parcel, Fail>
     ensures { IfOk result ArePlaced }
 {
     let heap = heap_of(alloc, 10_000, case.0)?;
-    Ok(packed(alloc, &heap, case.1, case.2)?)
+    let exports = exports_of(alloc, case.1)?;
+    Ok(packed(alloc, &heap, exports.as_slice(), case.2)?)
 }
 
 // The text of what is packed where the parcel was unpacked behind two objects.
@@ -129,7 +154,8 @@ fn text_of_copy(alloc: Global, parcel: &Parcel) -> Result<String, Fail>
 {
     let mut other = heap_of(alloc, 10_000, &BEFORE)?;
     let roots = unpack(alloc, &mut other, parcel)?;
-    let again = packed(alloc, &other, &OBJECT_1, roots.as_slice())?;
+    let exports = exports_of(alloc, &OBJECT_1)?;
+    let again = packed(alloc, &other, exports.as_slice(), roots.as_slice())?;
     Ok(parcel_text(alloc, &again)?)
 }
 

@@ -45,6 +45,9 @@ pub const STRINGS: u32 = 44;
 
 pub const HIDDEN_TABLE: u32 = 45;
 
+/// The number of a class behind all of these.
+pub const BEHIND: u32 = 46;
+
 fn class(
     alloc: Global,
     name: &str,
@@ -117,8 +120,23 @@ fn classes(alloc: Global) -> Result<Vec<Class>, OutOfMemory> {
     Ok(classes)
 }
 
-/// One template, which lists Pair, Service and Server, the first, third and fourth class of the plan.
-pub fn system(alloc: Global) -> Result<System, OutOfMemory> {
+// Adds two interfaces that extend both of these.
+fn add_layer(
+    alloc: Global,
+    classes: &mut Vec<Class>,
+    above: Option<(ClassId, ClassId)>,
+) -> Result<(), OutOfMemory> {
+    for name in &["First", "Second"] {
+        let interfaces = match above {
+            Some((first, second)) => vec![in alloc; first, second]?,
+            None => Vec::new(alloc),
+        };
+        classes.push(class(alloc, name, interfaces, None)?)?;
+    }
+    Ok(())
+}
+
+fn system_of(alloc: Global, classes: Vec<Class>) -> Result<System, OutOfMemory> {
     let template = Template {
         name: Listed::from_vec(Vec::new(alloc)),
         main: 0,
@@ -135,9 +153,28 @@ pub fn system(alloc: Global) -> Result<System, OutOfMemory> {
             classes: Listed::from_vec(Vec::new(alloc)),
         },
         program: Program {
-            classes: Listed::from_vec(classes(alloc)?),
+            classes: Listed::from_vec(classes),
             methods: Listed::from_vec(Vec::new(alloc)),
             selectors: Listed::from_vec(Vec::new(alloc)),
         },
     })
+}
+
+/// One template, which lists Pair, Service and Server, the first, third and fourth class of the plan.
+pub fn system(alloc: Global) -> Result<System, OutOfMemory> {
+    system_of(alloc, classes(alloc)?)
+}
+
+/// The same with so many layers of two interfaces behind all, each of which extends both of the layer
+/// before it.
+pub fn layered(alloc: Global, layers: u32) -> Result<System, OutOfMemory> {
+    let mut classes = classes(alloc)?;
+    add_layer(alloc, &mut classes, None)?;
+    for layer in 1..layers {
+        let above = BEHIND.saturating_add(layer.saturating_mul(2));
+        let first = ClassId(above.saturating_sub(2));
+        let second = ClassId(above.saturating_sub(1));
+        add_layer(alloc, &mut classes, Some((first, second)))?;
+    }
+    system_of(alloc, classes)
 }

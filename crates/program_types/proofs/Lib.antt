@@ -1,0 +1,4 @@
+pub mod ClassSteps
+pub mod ShapeSteps
+pub mod SignatureSteps
+pub mod VainWalks
