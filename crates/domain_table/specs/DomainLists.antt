@@ -1,0 +1,93 @@
+-- What a table of domains is seen as: plain lists, the domain of number n at place n - 1.
+use Rattle.std.specs.Prelude.{◌≡◌, ℕ, ◌+◌, ◌≤◌, Bool, List, [], ◌∷◌, ◌++◌, replicate, Option, Some, None, IsSome, IsSomeAnd, slice_get}
+use Rattle.std.specs.List.{position}
+use Rattle.std.specs.Option.{option_and_then}
+use Rattle.jx_base.specs.declared.act.Reason.{Reason}
+use Rattle.jx_base.specs.declared.ids.CallId.{CallId}
+use Rattle.jx_base.specs.declared.ids.DomainId.{DomainId}
+use Rattle.jx_base.specs.declared.ids.ServiceId.{ServiceId}
+use Rattle.jx_base.specs.declared.states.DomainState.{DomainState}
+use Rattle.jx_base.specs.declared.states.ThreadState.{ThreadState}
+use Rattle.jx_base.specs.declared.states.ThreadState.TheVariants as thread
+use Rattle.jx_base.specs.Basics.{numbered}
+use Rattle.jx_model.specs.Tables.{ThreadRecord}
+use Rattle.jx_model.specs.Threads.{is_running_state}
+use Rattle.domain_table.specs.declared.rows.ThreadRow.{ThreadRow}
+use Rattle.table_threads.specs.ThreadChanges.{first_records, own_added}
+
+-- ---- threads
+
+-- a thread as the definitions know it
+abbrev pub record_of : ThreadRow → ThreadRecord
+record_of row = record { service = row.service; state = row.state; serves = row.serves }
+
+-- the threads of a domain, and how many there may be
+pub record ThreadsState : Type 0 where
+  pub records : List ThreadRecord
+  pub room : ℕ
+
+-- the call that a thread serves once it is in a state
+abbrev pub served_in : ThreadState → Option CallId → Option CallId
+served_in (thread.Serving c) old = Some c
+served_in (thread.Idle s) old = None
+served_in _ old = old
+
+-- a thread in another state
+abbrev pub with_state : ThreadState → ThreadRecord → ThreadRecord
+with_state state old = record old { state = state; serves = served_in state old.serves }
+
+abbrev pub is_running : ThreadRecord → Bool
+is_running r = is_running_state r.state
+
+-- ---- domains
+
+-- the domains, the threads of each, how many services were given threads, and how many domains there may be
+pub record DomainsState : Type 0 where
+  pub domains : List DomainState
+  pub threads : List (List ThreadRecord)
+  pub services : ℕ
+  pub limit : ℕ
+
+-- a live domain
+abbrev pub new_domain : ℕ → DomainId → ℕ → DomainState
+new_domain template creator at = record { template = template; creator = creator; at = at; ended = None }
+
+-- one domain more, whose first thread runs
+abbrev pub with_domain : DomainsState → DomainState → DomainsState
+with_domain x domain = record x { domains = x.domains ++ domain ∷ []; threads = x.threads ++ first_records ∷ [] }
+
+-- a domain that ended
+abbrev pub ended : Reason → DomainState → DomainState
+ended reason domain = record domain { ended = Some reason }
+
+-- idle threads of a service more
+abbrev pub with_idle : DomainsState → ℕ → ServiceId → ℕ → DomainsState
+with_idle x d service n = record x { threads = own_added d (replicate n service) x.threads; services = x.services + 1 }
+
+-- the threads of a domain
+abbrev pub threads_in : DomainsState → ℕ → Option (List ThreadRecord)
+threads_in x d = numbered x.threads d
+
+-- a thread of a domain
+abbrev pub thread_in : DomainsState → ℕ → ℕ → Option ThreadRecord
+thread_in x d t = option_and_then (λ records. slice_get records t) (threads_in x d)
+
+-- the domain was made and has not ended
+abbrev pub IsLive : DomainsState → ℕ → Type 0
+IsLive x d = IsSomeAnd (numbered x.domains d) (λ domain. domain.ended ≡ None)
+
+-- the domain has the thread
+abbrev pub HasThread : DomainsState → ℕ → ℕ → Type 0
+HasThread x d t = IsSome (thread_in x d t)
+
+-- 1 to 8 threads
+abbrev pub IsThreadCount : ℕ → Type 0
+IsThreadCount n = (1 ≤ n) × (n ≤ 8)
+
+-- the least running thread of a domain, where it lives
+abbrev pub running_of : Option Reason → Option (List ThreadRecord) → Option ℕ
+running_of None records = option_and_then (λ rs. position is_running rs) records
+running_of (Some reason) records = None
+
+abbrev pub running_in : DomainsState → ℕ → Option ℕ
+running_in x d = option_and_then (λ domain. running_of domain.ended (threads_in x d)) (numbered x.domains d)

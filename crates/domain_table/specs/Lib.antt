@@ -1,0 +1,2 @@
+pub mod DomainLists
+pub mod Inner

@@ -1,0 +1,96 @@
+//! The threads of one domain.
+ghost use Rattle.std.specs.Prelude.{◌≡◌, ◌+◌, ◌++◌, ◌<◌, ◌≤◌, [], IfOk, length, map, replicate, option_map, slice_get};
+ghost use Rattle.std.specs.List.{position};
+ghost use Rattle.std.specs.Option.{option_map};
+ghost use Rattle.domain_table.specs.DomainLists.{is_running, record_of, with_state};
+ghost use Rattle.table_threads.specs.Changes.{changed_at};
+ghost use Rattle.table_threads.specs.ThreadChanges.{first_records, idle_record};
+
+use crate::rows::ThreadRow;
+use jx_base::{OutOfMemory, ServiceId, ThreadState};
+use std::alloc::Global;
+use std::marker::Model;
+
+fn first_running(rows: &[ThreadRow]) -> Option<usize>
+    ensures { result ≡ position (λ row. is_running (record_of row)) rows.now }
+{
+    rows.iter().position(|row| row.is_running())
+}
+
+/// The threads of a domain by their numbers, with room for so many, which is reserved.
+#[derive(Drop)]
+pub struct Threads {
+    rows: Vec<ThreadRow>,
+    room: usize,
+}
+
+impl Model for Threads {
+    ghost use Rattle.std.specs.Prelude.{◌≤◌, length, map, vec_capacity};
+    ghost use Rattle.domain_table.specs.DomainLists.{ThreadsState, record_of};
+
+    ghost Value = { ThreadsState };
+
+    ghost view = { λ threads. record { records = map record_of threads.rows.items; room = threads.room } };
+
+    ghost invariant = { λ threads. (length threads.rows.items ≤ threads.room)
+        × (threads.room ≤ vec_capacity threads.rows) };
+}
+
+impl Threads {
+    /// No threads yet.
+    pub fn with_room(alloc: Global, room: usize) -> Result<Threads, OutOfMemory>
+        ensures { IfOk result (λ threads. threads ≡ record { records = []; room = room }) }
+    {
+        Ok(Threads {
+            rows: Vec::with_capacity(alloc, room)?,
+            room,
+        })
+    }
+
+    /// Puts the thread that runs first behind the others. Takes no memory.
+    pub fn add_first(&mut self)
+        requires { length self.old.records < self.old.room }
+        ensures { self.new ≡ record self.old { records = self.old.records ++ first_records } }
+    {
+        self.rows.push_reserved(ThreadRow {
+            service: None,
+            state: ThreadState::Running,
+            serves: None,
+        });
+    }
+
+    /// Puts so many idle threads of the service behind the others. Takes no memory.
+    pub fn add_idle(&mut self, service: ServiceId, count: u8)
+        requires { length self.old.records + count ≤ self.old.room }
+        ensures { self.new ≡ record self.old {
+          records = self.old.records ++ map idle_record (replicate count service);
+        } }
+    {
+        for _ in 0..count {
+            self.rows.push_reserved(ThreadRow::idle(service));
+        }
+    }
+
+    pub fn get(&self, thread: u32) -> Option<ThreadRow>
+        ensures { option_map record_of result ≡ slice_get self.now.records thread }
+    {
+        self.rows.get(thread as usize).copied()
+    }
+
+    /// The least thread that runs.
+    pub fn running(&self) -> Option<usize>
+        ensures { result ≡ position is_running self.now.records }
+    {
+        first_running(self.rows.as_slice())
+    }
+
+    pub fn set_state(&mut self, thread: u32, state: ThreadState)
+        requires { thread < length self.old.records }
+        ensures { self.new ≡ record self.old {
+          records = changed_at thread (with_state state) self.old.records;
+        } }
+    {
+        let row = self.rows[thread as usize];
+        self.rows[thread as usize] = row.with_state(state);
+    }
+}
