@@ -54,8 +54,8 @@ fn left_by_run(run: &[Value], most: u32) -> u32
     left
 }
 
-// How many slots are left of so many by the values of a stack.
-pub(crate) fn slots_left(stack: &mut OperandStack, most: u32) -> u32
+/// How many slots are left of so many by the values of a stack, which is as it was.
+pub fn slots_left(stack: &mut OperandStack, most: u32) -> u32
     requires depth { depth_of stack.old.values ≤ most }
     requires room { most ≤ stack.old.room }
     ensures left { depth_of stack.old.values + result ≡ most }

@@ -14,4 +14,8 @@ mod step;
 mod switches;
 mod values;
 
+pub use depth::slots_left;
+pub use locals::{has_place, set_local};
+pub use operands::index_operand;
 pub use step::{NumStep, step_num};
+pub use values::{as_kind, is_null, is_same, slots_of};

@@ -5,8 +5,8 @@ ghost use Rattle.machine_model.specs.NumericRows as Spec;
 use crate::values::slots_of;
 use jx_base::{Locals, Value};
 
-// Whether the value has its places among the locals from the n-th on.
-pub(crate) fn has_place(locals: &Locals, n: u32, value: Value) -> bool
+/// Whether the value has its places among the locals from the n-th on.
+pub fn has_place(locals: &Locals, n: u32, value: Value) -> bool
     ensures { result ≡ nat_le (n + Spec.slots_of value) (length locals.now) }
 {
     n as usize + slots_of(value) as usize <= locals.len()
@@ -26,9 +26,9 @@ pub(crate) fn local_of(locals: &Locals, n: u32) -> Option<Value>
     }
 }
 
-// Sets a local. Behind a long the second one is unset.
+/// Sets a local. Behind a long the second one is unset.
 #[tactic(auto, unfolding(machine_model::specs::NumericRows::set_local, machine_model::specs::NumericRows::slots_of))]
-pub(crate) fn set_local(locals: &mut Locals, n: u32, value: Value)
+pub fn set_local(locals: &mut Locals, n: u32, value: Value)
     requires place { n + Spec.slots_of value ≤ length locals.old }
     requires small { length locals.old < 2 ^ 32 }
     ensures { locals.new ≡ Spec.set_local locals.old n value }

@@ -17,9 +17,9 @@ pub(crate) fn operand(instr: &Instr, k: usize) -> i32
     }
 }
 
-// Operand k as an index or a place in the code.
+/// Operand k as an index or a place in the code.
 #[tactic(auto, unfolding(program_model::specs::Instructions::index_operand))]
-pub(crate) fn index_operand(instr: &Instr, k: usize) -> u32
+pub fn index_operand(instr: &Instr, k: usize) -> u32
     ensures { result ≡ Spec.index_operand instr.now k }
 {
     operand(instr, k).cast_unsigned()

@@ -4,9 +4,9 @@ ghost use Rattle.machine_model.specs.NumericRows as Spec;
 
 use jx_base::{Kind, Value};
 
-// How many slots a value fills.
+/// How many slots a value fills.
 #[tactic(auto, unfolding(machine_model::specs::NumericRows::slots_of))]
-pub(crate) fn slots_of(value: Value) -> u32
+pub fn slots_of(value: Value) -> u32
     ensures { result ≡ Spec.slots_of value }
 {
     match value {
@@ -26,9 +26,9 @@ pub(crate) fn as_reference(value: Value) -> Option<Value>
     }
 }
 
-// The value, where it is of that kind.
+/// The value, where it is of that kind.
 #[tactic(auto, unfolding(machine_model::specs::NumericRows::as_kind))]
-pub(crate) fn as_kind(kind: Kind, value: Value) -> Option<Value>
+pub fn as_kind(kind: Kind, value: Value) -> Option<Value>
     ensures { result ≡ Spec.as_kind kind value }
 {
     match (kind, value) {
@@ -40,15 +40,15 @@ pub(crate) fn as_kind(kind: Kind, value: Value) -> Option<Value>
 }
 
 #[tactic(auto, unfolding(machine_model::specs::NumericRows::is_null))]
-pub(crate) fn is_null(value: Value) -> bool
+pub fn is_null(value: Value) -> bool
     ensures { result ≡ Spec.is_null value }
 {
     matches!(value, Value::Null)
 }
 
-// Whether two references are the same: portals by their service.
+/// Whether two references are the same: portals by their service.
 #[tactic(auto, unfolding(machine_model::specs::NumericRows::is_same))]
-pub(crate) fn is_same(a: Value, b: Value) -> bool
+pub fn is_same(a: Value, b: Value) -> bool
     ensures { result ≡ Spec.is_same a b }
 {
     match (a, b) {

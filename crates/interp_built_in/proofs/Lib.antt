@@ -1,0 +1,4 @@
+pub mod TextSteps
+pub mod SuperSteps
+pub mod TableSteps
+pub mod CallSteps

@@ -1,0 +1,5 @@
+pub mod BehindParts
+pub mod Filling
+pub mod FrameLaws
+pub mod Keys
+pub mod Leavings

@@ -1,0 +1,4 @@
+pub mod Behind
+pub mod Cores
+pub mod Making
+pub mod Steps
