@@ -9,7 +9,6 @@ mod constants;
 mod descriptors;
 #[cfg(test)]
 mod fronts;
-#[cfg(test)]
 mod javac_class;
 #[cfg(test)]
 mod members;
@@ -19,3 +18,5 @@ mod parts;
 mod texts;
 #[cfg(test)]
 mod whole;
+
+pub use javac_class::JAVAC_CLASS;

@@ -1,6 +1,7 @@
 //! Checks of systems, and runs of those that aren't run by now.
 
 use crate::first_run::{Case, File, RUN};
+use test_class_reader::JAVAC_CLASS;
 
 // The first class, whose code is five times nothing and a return.
 const IDLE: File = ("Hello.class", 179, &[0, 0, 0, 0, 0, 0xb1, 0, 0, 0, 0, 0, 0]);
@@ -32,14 +33,18 @@ const HALLO: File = ("Hallo.class", 191, b"");
 
 const NO_DOMAINS: File = ("plan", 0, b"granules = 1\n");
 
+// The same class as javac lays it out.
+const JAVAC: File = ("Hello.class", 0, &JAVAC_CLASS);
+
 const CHECK: &[&str] = &["check", "Hello.class"];
 
 const CHECK_PLAN: &[&str] = &["check", "plan"];
 
 /// The lines of `check`, and those of a run that says why there is none.
-pub static SYSTEMS: [Case; 16] = [
+pub static SYSTEMS: [Case; 17] = [
     (CHECK, HELLO, &[], 0, "", "ok 1 1\n"),
     (CHECK, IDLE, &[], 0, "", "ok 1 1\n"),
+    (CHECK, JAVAC, &[], 0, "", "ok 1 1\n"),
     (CHECK, HELLO, &[0], 3, "jx: shelf fault\n", ""),
     (CHECK, HALLO, &[], 4, "jx: missing Hello.class\n", ""),
     (
