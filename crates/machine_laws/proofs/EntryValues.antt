@@ -1,5 +1,5 @@
 -- Each entry of a domain keeps its state one of values.
-use Rattle.std.proofs.Common.{◌≡◌, ◌≢◌, refl, sym, ◌∙◌, ap, subst, ℕ, ◌<◌, pos, Bool, true, false, ◌&&◌, ◌||◌, List, [], ◌∷◌, ◌++◌, drop, replicate, Option, Some, None, is_some, arith, ◌==◌, inr, slice_get}
+use Rattle.std.proofs.Common.{◌≡◌, refl, sym, ◌∙◌, ap, subst, ℕ, ◌<◌, pos, Bool, true, false, ◌&&◌, ◌||◌, List, [], ◌∷◌, ◌++◌, drop, replicate, Option, Some, None, is_some, arith, ◌==◌, inr, slice_get}
 use Rattle.std.specs.Prelude.{if◌then◌else◌, codes, nat_lt, find}
 use Rattle.std.specs.List.{AllByRecursion}
 use Rattle.std.proofs.lemmas.Bool.Decides.{nat_tests}
@@ -22,7 +22,7 @@ use Rattle.jx_base.specs.declared.value.Parcel.{Parcel}
 use Rattle.jx_base.specs.declared.value.Value.{Value}
 use Rattle.jx_base.specs.declared.value.Value.TheVariants as value
 use Rattle.program_model.specs.Types.{signature_of, parameter_types}
-use Rattle.program_model.specs.BuiltIn.{string_class, built_in_count, built_in_table, throwable_class, copy_exception, ended_exception, opened_built_in}
+use Rattle.program_model.specs.BuiltIn.{built_in_count, built_in_table, throwable_class, copy_exception, ended_exception, opened_built_in}
 use Rattle.machine_model.specs.BuiltInMethods.{BuiltInOutcome, Gives, Performs, Raises, HasNoRoom, Unfit, built_in_outcome, unit_of}
 use Rattle.jx_base.specs.Histories.{Past}
 use Rattle.program_model.specs.Lookup.{class_named, method_at, selector_at, selected_method, is_built_in, is_below, shape_fits, object_fits, Shape, IntShape, LongShape, NullShape, ObjectShape, PortalShape, Unknown}
@@ -41,7 +41,7 @@ use Rattle.machine_laws.specs.Sound.{IsSound}
 use Rattle.machine_laws.proofs.Lists.{all_append, all_drop, all_get, all_found, all_replicate}
 use Rattle.machine_laws.proofs.NumericValues.{then_some, mapped_some, built_in_class}
 use Rattle.machine_laws.proofs.Natives.{IsNativeIn, named_class}
-use Rattle.machine_laws.proofs.ObjectValues.{any_native, NativeFits, selected_is, array_is_no_string}
+use Rattle.machine_laws.proofs.ObjectValues.{any_native, NativeFits, selected_is, IsArrayClass, array_class_of}
 use Rattle.machine_laws.proofs.StateValues.{bare, set_thread, set_store, less_fuel, later_frames, set_frames, set_stage, throw_in, raise_in, begin_in, Fs}
 use Rattle.machine_laws.proofs.Stores.{IsLater, AreCellsOf, new_object_in, with_same_objects, grows_to, threads_grow}
 use Rattle.machine_laws.proofs.Unpacking.{IsUnpacked, unpacked_in}
@@ -120,15 +120,14 @@ module _ (s : System) (past : Past) (z : IsSound s) where
       by None e = exception 0 (omega arith) refl
       by (Some c) e = named_class s name c e
 
-  memory_array : unwrap_or (class_named s (codes "[Ljx/Memory;")) 0 ≢ string_class
-  unfolding opened_built_in
-  memory_array = by (class_named s (codes "[Ljx/Memory;")) refl
+  memory_array : IsArrayClass s (unwrap_or (class_named s (codes "[Ljx/Memory;")) 0)
+  memory_array = by (class_named s (codes "[Ljx/Memory;")) refl z.memories
     where
-      by : (o : Option ℕ) → class_named s (codes "[Ljx/Memory;") ≡ o → unwrap_or o 0 ≢ string_class
-      by None e q = omega (arith, q)
-      by (Some c) e q = array_is_no_string s (codes "Ljx/Memory;") c z e q
+      by : (o : Option ℕ) → class_named s (codes "[Ljx/Memory;") ≡ o → is_some o ≡ true → IsArrayClass s (unwrap_or o 0)
+      by None e q = cc
+      by (Some c) e q = array_class_of s (codes "Ljx/Memory;") c z e
 
-  split_in : (st : State) (t : ℕ) (x : Thread) (halves : List Value) → IsStateIn s past st → Fs s past z st.store x.frames → ((c : ℕ) → c ≢ string_class → AreCellsOf past st.store c halves) → IsStateIn s past (after_split s st t x halves)
+  split_in : (st : State) (t : ℕ) (x : Thread) (halves : List Value) → IsStateIn s past st → Fs s past z st.store x.frames → ((c : ℕ) → IsArrayClass s c → AreCellsOf s past st.store c halves) → IsStateIn s past (after_split s st t x halves)
   unfolding after_split with_store
   split_in st t x halves h i k = by (new_object st.store (unwrap_or (class_named s (codes "[Ljx/Memory;")) 0) halves) refl
     where
@@ -144,9 +143,9 @@ module _ (s : System) (past : Past) (z : IsSound s) where
           result_in (with_store st y.0) t x (Some (value.Ref y.1)) (set_store s past z st y.0 h l) (later_frames s past z st.store y.0 l x.frames i) (ap is_some m.object)
 
   -- two memory objects may stand in any object
-  memory_cells : (store : Store) (a b : ObjectId) (c : ℕ) → IsId a.0 → IsId b.0 → c ≢ string_class → AreCellsOf past store c (value.Mem a ∷ value.Mem b ∷ [])
+  memory_cells : (store : Store) (a b : ObjectId) (c : ℕ) → IsId a.0 → IsId b.0 → IsArrayClass s c → AreCellsOf s past store c (value.Mem a ∷ value.Mem b ∷ [])
   unfolding unit_of
-  memory_cells store a b c i j n = record { values = (i, (j, tt)); units = λ e. absurd (n e); text = λ e. (tt, (tt, tt)) }
+  memory_cells store a b c i j n = record { count = n.any 2; values = (i, (j, tt)); units = λ e. absurd (n.other e); text = λ e. (tt, (tt, tt)) }
 
   reply_in : (st : State) (t : ℕ) (x : Thread) (r : Reply) → IsStateIn s past st → Fs s past z st.store x.frames → IsReplyIn s past r → IsStateIn s past (after_reply s st t x r)
   unfolding after_reply
@@ -335,7 +334,7 @@ module _ (s : System) (past : Past) (z : IsSound s) where
 
   export_later : (store : Store) (r : ℕ) (service : ServiceId) (iface : ClassId) → IsStoreIn s past store → IsObject store r → IsPortalIn past service.0 iface → IsLater s past store (store_of store r service iface)
   export_later store r service iface h o e =
-      with_same_objects s past store (store_of store r service iface) refl h h.room h.statics h.literals (all_append (IsExportIn past store) store.exports (record { object = r; service = service; iface = iface } ∷ []) h.exports (record { object = o; known = e }, tt))
+      with_same_objects s past store (store_of store r service iface) refl h h.room refl h.statics h.literals (all_append (IsExportIn past store) store.exports (record { object = r; service = service; iface = iface } ∷ []) h.exports (record { object = o; known = e }, tt))
 
   export_in : (st : State) (r : ℕ) (service : ServiceId) (iface : ClassId) (n : ℕ) → IsStateIn s past st → IsObject st.store r → IsPortalIn past service.0 iface → IsStateIn s past (with_export st r service iface n)
   unfolding with_export idle_thread

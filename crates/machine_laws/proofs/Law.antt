@@ -16,30 +16,40 @@ use Rattle.program_model.specs.BuiltIn.{opened_built_in}
 use Rattle.machine_model.specs.BuiltInMethods.{unit_of}
 use Rattle.jx_base.specs.Histories.{Past, own_entries, is_own}
 use Rattle.jx_model.specs.Legal.{IsAdmittedPast, IsNext}
-use Rattle.program_model.specs.Lookup.{template_at}
+use Rattle.program_model.specs.Lookup.{class_named, template_at}
 use Rattle.machine_model.specs.Machine.{NextAct, no_state, domain_state, next_act}
 use Rattle.machine_model.specs.MachineThreads.{idle_thread}
 use Rattle.jx_model.specs.Portals.{interface_of, export_of, is_export, exported_interface, services_made}
 use Rattle.jx_model.specs.Replies.{reply_to, new_service, ◌refuses◌else◌}
 use Rattle.machine_model.specs.Running.{state_at_act}
 use Rattle.machine_model.specs.Start.{start_of, first_store, first_objects, object_of}
-use Rattle.machine_model.specs.State.{State, class_of_object, static_types}
+use Rattle.machine_model.specs.State.{State, class_of_object, default_of, static_types}
 use Rattle.jx_base.proofs.NthEntries.{nth_new}
 use Rattle.machine_laws.specs.Handed.{IsReplyIn, IsExportedIn}
 use Rattle.machine_laws.specs.Law.{RepliesHold, NextIsWellMade}
-use Rattle.machine_laws.specs.Values.{IsStoreIn, IsStateIn, ServeKnownCalls}
+use Rattle.machine_laws.specs.Values.{HasCountOf, IsStoreIn, IsStateIn, ServeKnownCalls}
 use Rattle.machine_laws.specs.Sound.{IsSound}
-use Rattle.machine_laws.proofs.Lists.{all_images}
+use Rattle.machine_laws.proofs.Lists.{mapped_length, all_images}
 use Rattle.machine_laws.proofs.EntryValues.{entry_in, class_or_object}
 use Rattle.machine_laws.proofs.NumericValues.{built_in_class}
+use Rattle.machine_laws.proofs.ObjectValues.{array_class_of}
 use Rattle.machine_laws.proofs.StateValues.{at_act_in, act_in_in, finish_in, IsNextIn}
 use Rattle.machine_laws.proofs.Stores.{default_in, state_of_past}
 use Rattle.machine_laws.proofs.ServedCalls.{TakesKnownCall, at_act_known, entry_known, start_known}
 use Rattle.jx_model.proofs.SmallNumbers.{services_few}
 use Rattle.jx_model.specs.WellMade.{IsPortalIn, IsWellMade}
-use Rattle.std.specs.Option.{option_and_then}
+use Rattle.std.specs.Option.{option_and_then, unwrap_or}
 
 -- ---- the start
+
+-- the class of arrays of strings, or java/lang/Object, of which an object has no cells
+strings_count : (s : System) → IsSound s → HasCountOf s (unwrap_or (class_named s (codes "[Ljava/lang/String;")) 0) 0
+unfolding opened_built_in
+strings_count s z = by (class_named s (codes "[Ljava/lang/String;")) refl
+  where
+    by : (o : Option ℕ) → class_named s (codes "[Ljava/lang/String;") ≡ o → HasCountOf s (unwrap_or o 0) 0
+    by None e = λ q. rw (z.built_in 0 (omega arith)) refl
+    by (Some c) e = (array_class_of s (codes "Ljava/lang/String;") c z e).any 0
 
 first_in : (s : System) (past : Past) (t : Template) → IsSound s → t.heap ≤ 131072 → IsStoreIn s past (first_store s t)
 unfolding first_store first_objects object_of class_of_object opened_built_in unit_of
@@ -47,9 +57,10 @@ first_in s past t z h = record {
   first = refl;
   second = refl;
   room = omega (arith, h);
+  count = mapped_length default_of (static_types s);
   objects = (
-    record { known = built_in_class s 16 z (omega arith) refl; small = omega arith; cells = (tt, tt); units = λ e. absurd (omega (arith, e)); text = λ e. absurd (omega (arith, e)) },
-    (record { known = class_or_object s past z (codes "[Ljava/lang/String;"); small = omega arith; cells = tt; units = λ e. tt; text = λ e. tt }, tt),
+    record { known = built_in_class s 16 z (omega arith) refl; count = λ e. rw (z.built_in 16 (omega arith)) refl; small = omega arith; cells = (tt, tt); units = λ e. absurd (omega (arith, e)); text = λ e. absurd (omega (arith, e)) },
+    (record { known = class_or_object s past z (codes "[Ljava/lang/String;"); count = strings_count s z; small = omega arith; cells = tt; units = λ e. tt; text = λ e. tt }, tt),
   );
   statics = all_images _ _ (λ type. default_in past (first_store s t) type) (static_types s);
   literals = tt;

@@ -1,5 +1,5 @@
 -- The built-in methods make values of values, and the acts that they perform are well made.
-use Rattle.std.proofs.Common.{◌≡◌, ◌≢◌, refl, sym, ◌∙◌, ap, subst, ℕ, suc, ◌+◌, ◌<◌, ◌≤◌, ◌^◌, ◌%◌, ℤ, pos, negsuc, Bool, true, false, cond, ◌&&◌, ◌||◌, not, List, [], ◌∷◌, ◌++◌, length, map, Option, Some, None, is_some, arith, ◌==◌, ◌⊎◌, inl, inr, slice_get}
+use Rattle.std.proofs.Common.{◌≡◌, ◌≢◌, refl, sym, ◌∙◌, ap, subst, ℕ, suc, ◌+◌, ◌<◌, ◌≤◌, ◌^◌, ◌%◌, ℤ, pos, negsuc, Bool, true, false, cond, ◌&&◌, ◌||◌, not, List, [], ◌∷◌, ◌++◌, length, map, Option, Some, None, is_some, arith, ◌==◌, inl, inr, slice_get}
 use Rattle.std.specs.Prelude.{FitsSigned, nat_lt, nat_le, int_le, if◌then◌else◌, codes, find, ◌*ℤ◌, ◌+ℤ◌}
 use Rattle.std.specs.List.{AllByRecursion, position_or_len, prefix_len}
 use Rattle.std.specs.Fmt.{signed_decimal, decimal}
@@ -36,8 +36,8 @@ use Rattle.jx_model.proofs.WellMadeTest.{well_made_test}
 use Rattle.machine_laws.specs.Values.{IsValueIn, IsValueInSome, IsUnitValue, IsStoreIn, cell_limit}
 use Rattle.machine_model.specs.Conditions.{IsTextIfObject}
 use Rattle.machine_laws.specs.Sound.{IsSound}
-use Rattle.machine_laws.specs.Called.{HasReceiver, FitsCall}
-use Rattle.machine_laws.proofs.Lists.{all_append, all_get, all_map, all_found}
+use Rattle.machine_laws.specs.Called.{FitsCall}
+use Rattle.machine_laws.proofs.Lists.{mapped_length, all_append, all_get, all_map, all_found}
 use Rattle.machine_laws.proofs.NumericValues.{then_some, built_in_class}
 use Rattle.machine_laws.proofs.Ranges.{low_char_is, int_is_long}
 use Rattle.machine_laws.proofs.Stores.{IsLater, later_itself, later_on, IsMade, AreCellsOf, new_object_in, with_cell_in, cells_in, cells_small, cells_units, cells_text, object_there}
@@ -148,13 +148,9 @@ pub text_units : (s : System) (past : Past) (store : Store) (r : ℕ) → IsStor
 unfolding text_of
 text_units s past store r h c = all_map IsUnitValue (λ u. u < 65536) unit_of unit_below (cells_of store r) (cells_units s past store r h c)
 
-length_map : {X Y : Type 0} (f : X → Y) (xs : List X) → length (map f xs) ≡ length xs
-length_map f [] = refl
-length_map f (x ∷ xs) = ap suc (length_map f xs)
-
 text_small : (s : System) (past : Past) (store : Store) (r : ℕ) → IsStoreIn s past store → length (text_of store r) ≤ cell_limit
 unfolding text_of
-text_small s past store r h = omega (arith, cells_small s past store r h, length_map unit_of (cells_of store r))
+text_small s past store r h = omega (arith, cells_small s past store r h, mapped_length unit_of (cells_of store r))
 
 small_int : (n : ℕ) → n ≤ cell_limit → FitsSigned w32 (pos n)
 small_int n h = record { sfits = omega (arith, h) }
@@ -163,9 +159,10 @@ unit_int : (n : ℕ) → n < 65536 → FitsSigned w32 (pos n)
 unit_int n h = record { sfits = omega (arith, h) }
 
 -- the cells of a String of units
-pub text_cells_in : (past : Past) (store : Store) (units : List ℕ) → Units units → AreCellsOf past store string_class (text_cells units)
+pub text_cells_in : (s : System) (past : Past) (store : Store) (units : List ℕ) → Units units → AreCellsOf s past store string_class (text_cells units)
 unfolding text_cells opened_built_in unit_of not_below_zero
-text_cells_in past store units h = record {
+text_cells_in s past store units h = record {
+  count = λ e. absurd (e refl);
   values = all_map (λ u. u < 65536) (IsValueIn past store) (λ u. value.Int (pos u)) unit_int units h;
   units = λ e. all_map (λ u. u < 65536) IsUnitValue (λ u. value.Int (pos u)) (λ u i. i) units h;
   text = λ e. absurd (omega (arith, e));
@@ -259,7 +256,7 @@ module _ (s : System) (past : Past) (store : Store) (z : IsSound s) (h : IsStore
     where
       by : (o : Option (Store × ℕ)) → new_object store string_class (text_cells units) ≡ o → N (elim o as (λ _. BuiltInOutcome) [ None ↦ HasNoRoom | Some x ↦ go x.0 x.1 ])
       by None e = tt
-      by (Some x) e = f x (new_object_in s past store string_class (text_cells units) x h string_known (text_cells_in past store units u) e)
+      by (Some x) e = f x (new_object_in s past store string_class (text_cells units) x h string_known (text_cells_in s past store units u) e)
 
   made_text : (x : Store × ℕ) → IsMade s past store string_class x → N (result_value x.0 (value.Ref x.1))
   unfolding result_value

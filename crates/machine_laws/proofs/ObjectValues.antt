@@ -1,6 +1,6 @@
 -- The rows on objects make values of values, and the acts that they ask for are well made.
 use Rattle.std.proofs.Common.{◌≡◌, ◌≢◌, refl, sym, ◌∙◌, ap, subst, ℕ, zero, suc, ◌+◌, ◌<◌, ◌≤◌, ℤ, pos, negsuc, Bool, true, false, cond, ◌&&◌, not, List, [], ◌∷◌, ◌++◌, length, take, drop, reverse, map, replicate, Option, Some, None, is_some, arith, ◌==◌, ◌⊎◌, inl, inr, slice_get}
-use Rattle.std.specs.Prelude.{FitsSigned, nat_lt, if◌then◌else◌, codes, find, slice_set, flat_map}
+use Rattle.std.specs.Prelude.{FitsSigned, nat_lt, if◌then◌else◌, codes, find, slice_set, flat_map, IfSome, IfNone}
 use Rattle.std.specs.List.{AllByRecursion, prefix_len, position_or_len}
 use Rattle.std.proofs.lemmas.List.{length-reverse}
 use Rattle.std.proofs.lemmas.Slice.Eq.{bytes_eq-Decides}
@@ -49,10 +49,10 @@ use Rattle.machine_model.specs.BuiltInMethods.{BuiltInOutcome, Gives, Performs, 
 use Rattle.machine_model.specs.ObjectRows.{ObjectOutcome, given, next_unless_overfull, leaves, leaves_new, literal_of, with_literal, text_row, constant_row, kind_of, component_of, component_for, place_in, at_index, load_row, store_in, store_row, length_row, new_array_row, Making, making_of, with_elements, with_all_elements, nested_arrays, ints_of, has_negative, multi_array_row, field_type, is_object_of, get_field_row, fitting_value, put_field_row, get_static_row, put_static_row, new_row, fits_class, check_row, instance_row, throw_row, Taken, all_fit, taken_arguments, with_object, with_result, built_in_row, enter_row, run_row, portal_row, selected_row, invoke_at, invoke_on, invoke_row, result_of, return_row, return_value_row, return_void_row, name_of_class, type_of, class_row, constant_used_row, plain_row, uses_constant, object_row_in, object_row, is_element_type}
 use Rattle.machine_model.specs.ObjectRows.{ObjectOutcome as object}
 use Rattle.jx_model.specs.WellMade.{IsClass, IsWellMade}
-use Rattle.machine_laws.specs.Values.{IsValueIn, IsValueInSome, IsObject, IsStoreIn, IsFrameIn, HasObjectsOf}
+use Rattle.machine_laws.specs.Values.{IsValueIn, IsValueInSome, IsObject, HasCountOf, IsStoreIn, IsFrameIn, HasObjectsOf}
 use Rattle.machine_model.specs.Conditions.{IsTextIfObject}
 use Rattle.machine_laws.specs.Sound.{IsSound, IsResolvedIn}
-use Rattle.machine_laws.proofs.Lists.{all_append, all_drop, all_take, all_reverse, all_get, all_set, all_replicate, all_found}
+use Rattle.machine_laws.proofs.Lists.{length_set, mapped_length, all_append, all_drop, all_take, all_reverse, all_get, all_set, all_replicate, all_found}
 use Rattle.machine_laws.proofs.NumericValues.{then_some, mapped_some, kind_same, built_in_class, with_local_in, AreLocals}
 use Rattle.machine_model.specs.Conditions.{local_count}
 use Rattle.machine_model.specs.State.{stack_limit}
@@ -145,12 +145,33 @@ pub heads : (a b : ℕ) (xs ys : List ℕ) → a ∷ xs ≡ b ∷ ys → a ≡ b
 heads a b xs ys e = cc
 
 -- the class of an array's name is no String
-pub array_is_no_string : (s : System) (name : List ℕ) (c : ℕ) → IsSound s → class_named s (91 ∷ name) ≡ Some c → c ≢ string_class
+array_is_no_string : (s : System) (name : List ℕ) (c : ℕ) → IsSound s → class_named s (91 ∷ name) ≡ Some c → c ≢ string_class
 unfolding opened_built_in
 array_is_no_string s name c z e q =
     let k = z.built_in 1 (omega arith) in
     let n : codes "java/lang/String" ≡ 91 ∷ name = named_is s (91 ∷ name) 1 _ (subst (λ (c : ℕ). class_named s (91 ∷ name) ≡ Some c) q e) k in
     omega (arith, heads 106 91 (codes "ava/lang/String") name n)
+
+-- an object of an array's class may have any number of cells
+array_count : (s : System) (name : List ℕ) (c n : ℕ) → IsSound s → class_named s (91 ∷ name) ≡ Some c → HasCountOf s c n
+unfolding dimensions_of
+array_count s name c n z e q = by (class_at s c) refl
+  where
+    counted : (p : Option (List ℕ)) (k : Class) → is_some p ≡ true → IfNone p (n ≡ length k.fields)
+    counted None k h = cc
+    counted (Some type) k h = tt
+
+    by : (o : Option Class) → class_at s c ≡ o → IfSome o (λ k. IfNone k.component (n ≡ length k.fields))
+    by None w = tt
+    by (Some k) w = counted k.component k (z.arrays c k w (subst (λ (x : List ℕ). 1 ≤ dimensions_of x) (sym (named_is s (91 ∷ name) c k e w)) (omega arith)))
+
+-- a class of arrays: not String, and of any number of cells
+pub record IsArrayClass (s : System) (c : ℕ) : Type 0 where
+  pub other : c ≢ string_class
+  pub any : (n : ℕ) → HasCountOf s c n
+
+pub array_class_of : (s : System) (name : List ℕ) (c : ℕ) → IsSound s → class_named s (91 ∷ name) ≡ Some c → IsArrayClass s c
+array_class_of s name c z e = record { other = array_is_no_string s name c z e; any = λ n. array_count s name c n z e }
 
 -- the class of an array's name is no StringBuilder
 array_named : (s : System) (name : List ℕ) (c : ℕ) → IsSound s → class_named s (91 ∷ name) ≡ Some c → c ≢ builder_class
@@ -174,10 +195,6 @@ ints_length (value.Null ∷ vs) ns e = cc
 ints_length (value.Ref n ∷ vs) ns e = cc
 ints_length (value.Portal k n ∷ vs) ns e = cc
 ints_length (value.Mem n ∷ vs) ns e = cc
-
-mapped_length : {X Y : Type 0} (f : X → Y) (xs : List X) → length (map f xs) ≡ length xs
-mapped_length f [] = refl
-mapped_length f (x ∷ xs) = ap suc (mapped_length f xs)
 
 -- ---- arrays of arrays
 
@@ -221,15 +238,16 @@ module _ (s : System) (past : Past) (z : IsSound s) where
           let t = again (with_cell (make store).store r i (value.Ref e)) l.store (still_none (make store).store (with_cell (make store).store r i (value.Ref e)) r l.grown b') in
           record { later = later_on s past store (with_cell (make store).store r i (value.Ref e)) (with_elements make r (i + 1) n (with_cell (make store).store r i (value.Ref e))).store (later_on s past store (make store).store (with_cell (make store).store r i (value.Ref e)) m.later l) t.later; array = t.array }
 
-  array_cells : (store : Store) (c n : ℕ) (type : List ℕ) → c ≢ string_class → AreCellsOf past store c (replicate n (default_of type))
+  pub array_cells : (store : Store) (c n : ℕ) (type : List ℕ) → IsArrayClass s c → AreCellsOf s past store c (replicate n (default_of type))
   array_cells store c n type a = record {
+    count = subst (HasCountOf s c) (sym (length-replicate n (default_of type))) (a.any n);
     values = all_replicate (IsValueIn past store) n (default_of type) (default_in past store type);
-    units = λ e. absurd (a e);
+    units = λ e. absurd (a.other e);
     text = λ e. all_replicate (IsTextIfObject store) n (default_of type) (default_text store type);
   }
 
   -- one array alone: its class is that of the name
-  alone_in : (store : Store) (name : List ℕ) (n : ℕ) (o : Option (Store × ℕ)) → ((c : ℕ) → class_named s name ≡ Some c → c ≢ string_class) → IsStoreIn s past store → option_and_then (λ c. new_array store c n (default_of (drop 1 name))) (class_named s name) ≡ o →
+  alone_in : (store : Store) (name : List ℕ) (n : ℕ) (o : Option (Store × ℕ)) → ((c : ℕ) → class_named s name ≡ Some c → IsArrayClass s c) → IsStoreIn s past store → option_and_then (λ c. new_array store c n (default_of (drop 1 name))) (class_named s name) ≡ o →
       IsMakingIn s past store (making_of store o) × ((r : ℕ) → (making_of store o).array ≡ Some r → (c : ℕ) × (class_named s name ≡ Some c) × (class_of_object (making_of store o).store r ≡ Some c))
   unfolding making_of
   alone_in store name n None a h e = (record { later = later_itself s past store h; array = λ r q. cc }, λ r q. cc)
@@ -248,8 +266,8 @@ module _ (s : System) (past : Past) (z : IsSound s) where
       by None e = m
       by (Some r) e = let t = elements_in make f r 0 n x.store m.later.store (b r e) in record { later = later_on s past store x.store (with_elements make r 0 n x.store).store m.later t.later; array = t.array }
 
-  array_at : (u : ℕ) (name : List ℕ) → u ≡ 91 → (c : ℕ) → class_named s (u ∷ name) ≡ Some c → c ≢ string_class
-  array_at u name e c q = array_is_no_string s name c z (subst (λ (v : ℕ). class_named s (v ∷ name) ≡ Some c) e q)
+  array_at : (u : ℕ) (name : List ℕ) → u ≡ 91 → (c : ℕ) → class_named s (u ∷ name) ≡ Some c → IsArrayClass s c
+  array_at u name e c q = array_class_of s name c z (subst (λ (v : ℕ). class_named s (v ∷ name) ≡ Some c) e q)
 
   nested_in : (lengths : List ℕ) (name : List ℕ) (store : Store) → length lengths ≤ dimensions_of name → IsStoreIn s past store → IsMakingIn s past store (nested_arrays s lengths name store)
   unfolding nested_arrays dimensions_of
@@ -269,7 +287,7 @@ module _ (s : System) (past : Past) (z : IsSound s) where
       by true e l again =
           let x = alone_in store (u ∷ name) n (option_and_then (λ c. new_array store c n (default_of name)) (class_named s (u ∷ name))) (array_at u name (eq_of u 91 e)) h refl in
           all_elements_in (nested_arrays s (m ∷ more) name) (λ st k. again st (omega (arith, l)) k) n store (making_of store (option_and_then (λ c. new_array store c n (default_of name)) (class_named s (u ∷ name)))) x.0
-          (λ r q. let y = x.1 r q in record { class = y.0; of = y.2; other = array_named s name y.0 z (subst (λ (v : ℕ). class_named s (v ∷ name) ≡ Some y.0) (eq_of u 91 e) y.1); array = array_at u name (eq_of u 91 e) y.0 y.1 })
+          (λ r q. let y = x.1 r q in record { class = y.0; of = y.2; other = array_named s name y.0 z (subst (λ (v : ℕ). class_named s (v ∷ name) ≡ Some y.0) (eq_of u 91 e) y.1); array = (array_at u name (eq_of u 91 e) y.0 y.1).other })
 
 has_left : (a b : List ℕ) (x : ℕ) → Has a x → Has (a ++ b) x
 has_left [] b x h = has_none x h
@@ -482,7 +500,7 @@ module _ (s : System) (past : Past) (core : Core) (z : IsSound s) (fs : AllByRec
       new = record x.0 { literals = x.0.literals ++ (text, x.1) ∷ [] }
 
       l : IsLater s past x.0 new
-      l = with_same_objects s past x.0 new refl m.later.store m.later.store.room m.later.store.statics
+      l = with_same_objects s past x.0 new refl m.later.store m.later.store.room refl m.later.store.statics
           (all_append (λ (y : List ℕ × ℕ). IsObject x.0 y.1) x.0.literals ((text, x.1) ∷ []) m.later.store.literals (m.object, tt)) m.later.store.exports
 
   text_in : (text : List ℕ) (stack : Stack) → Units text → Vs stack → R (text_row s core text stack)
@@ -494,7 +512,7 @@ module _ (s : System) (past : Past) (core : Core) (z : IsSound s) (fs : AllByRec
       by (Some r) e = leaves_in core.store (value.Ref r ∷ stack) same (literal_in text r e, i)
       by None e = leaves_new_in stack (option_map (with_literal text) (new_object core.store string_class (text_cells text))) i (λ x q.
           let y = mapped_some (with_literal text) (new_object core.store string_class (text_cells text)) x q in
-          subst IsFresh y.2 (with_literal_in text y.0 (made string_class y.0 (new_object_in s past core.store string_class (text_cells text) y.0 h string_known (text_cells_in past core.store text u) y.1))))
+          subst IsFresh y.2 (with_literal_in text y.0 (made string_class y.0 (new_object_in s past core.store string_class (text_cells text) y.0 h string_known (text_cells_in s past core.store text u) y.1))))
 
   constant_in : (x : Resolved) (stack : Stack) → IsResolvedIn s x → Vs stack → R (constant_row s core x stack)
   unfolding constant_row
@@ -556,19 +574,10 @@ module _ (s : System) (past : Past) (core : Core) (z : IsSound s) (fs : AllByRec
       leaves_in core.store (value.Int (pos (length (cells_of core.store r))) ∷ rest) same (record { sfits = omega (arith, cells_small s past core.store r h) }, k.1))
   length_in _ k = tt
 
-  -- an array of defaults
-  defaults_in : (c n : ℕ) (type : List ℕ) → c ≢ string_class → AreCellsOf past core.store c (replicate n (default_of type))
-  unfolding default_of
-  defaults_in c n type a = record {
-    values = all_replicate V n (default_of type) (default_in past core.store type);
-    units = λ e. absurd (a e);
-    text = λ e. all_replicate (IsTextIfObject core.store) n (default_of type) (default_text core.store type);
-  }
-
   new_array_row_in : (type : List ℕ) (stack : Stack) → Vs stack → R (new_array_row s core type stack)
   unfolding new_array_row
   new_array_row_in type (value.Int (pos n) ∷ rest) k = given_in (class_named s (91 ∷ type)) _ (λ c q.
-      leaves_new_in rest (new_array core.store c n (default_of type)) k.1 (λ x w. made c x (new_array_in s past core.store c n (default_of type) x h (named_class s (91 ∷ type) c q) (defaults_in c n type (array_is_no_string s type c z q)) w)))
+      leaves_new_in rest (new_array core.store c n (default_of type)) k.1 (λ x w. made c x (new_array_in s past core.store c n (default_of type) x h (named_class s (91 ∷ type) c q) (array_cells s past z core.store c n type (array_class_of s type c z q)) w)))
   new_array_row_in type (value.Int (negsuc n) ∷ rest) k = negative_class
   new_array_row_in type _ k = tt
 
@@ -672,7 +681,7 @@ module _ (s : System) (past : Past) (core : Core) (z : IsSound s) (fs : AllByRec
       let y = then_some (slice_get (static_types s) i) (fitting_value s core.store v) x q in
       let f = fitting_in v x y.0 y.2 in
       let after : Store = record core.store { statics = slice_set core.store.statics i x } in
-      let l = with_same_objects s past core.store after refl h h.room (all_set V core.store.statics i x (subst V f.is (kept_in past core.store y.0 v k.0)) h.statics) h.literals h.exports in
+      let l = with_same_objects s past core.store after refl h h.room (length_set core.store.statics i x) (all_set V core.store.statics i x (subst V f.is (kept_in past core.store y.0 v k.0)) h.statics) h.literals h.exports in
       leaves_in after rest l (later_values after l rest k.1))
 
   -- ---- classes

@@ -1,6 +1,6 @@
 -- The replies of an admitted past are in their ranges.
-use Rattle.std.proofs.Common.{◌≡◌, refl, sym, ◌∙◌, ap, subst, ℕ, zero, suc, ◌+◌, pos, negsuc, Bool, true, false, not, ◌&&◌, List, [], ◌∷◌, ◌++◌, length, replicate, Option, Some, None, is_some, arith, slice_get, ◌⊎◌, inl, inr, ◌==◌, append_assoc}
-use Rattle.std.specs.Prelude.{if◌then◌else◌, codes, int_le}
+use Rattle.std.proofs.Common.{◌≡◌, refl, sym, ◌∙◌, ap, subst, ℕ, zero, suc, ◌+◌, pos, negsuc, Bool, true, false, not, ◌&&◌, List, [], ◌∷◌, ◌++◌, length, map, replicate, Option, Some, None, is_some, arith, slice_get, ◌⊎◌, inl, inr, ◌==◌, append_assoc}
+use Rattle.std.specs.Prelude.{if◌then◌else◌, codes, int_le, IfSome, IfNone}
 use Rattle.std.specs.List.{AllByRecursion, list_all}
 use Rattle.std.proofs.lemmas.Bool.Decides.{nat_tests}
 use Rattle.jx_base.specs.declared.act.Act.{Act}
@@ -11,6 +11,7 @@ use Rattle.jx_base.specs.declared.act.Refusal.{Refusal}
 use Rattle.jx_base.specs.declared.act.Refusal.TheVariants as refusal
 use Rattle.jx_base.specs.declared.act.Entry.{Entry}
 use Rattle.jx_base.specs.declared.program.Class.{Class}
+use Rattle.jx_base.specs.declared.program.Field.{Field}
 use Rattle.jx_base.specs.declared.program.System.{System}
 use Rattle.jx_base.specs.declared.value.Node.{Node}
 use Rattle.jx_base.specs.declared.value.Parcel.{Parcel}
@@ -33,9 +34,11 @@ use Rattle.program_model.specs.Parcels.{fits_domain, node_fits, cells_fit, cell_
 use Rattle.program_model.specs.Types.{lies_in_type, opened_types}
 use Rattle.jx_model.specs.WellMade.{IsWellMade}
 use Rattle.jx_model.proofs.Growing.{moment, stays_well_made}
-use Rattle.jx_base.proofs.BasicLaws.{both, passed}
+use Rattle.jx_base.proofs.BasicLaws.{both, passed, eq_of}
 use Rattle.machine_laws.specs.Handed.{IsUnitWord, IsTextWord, HasTexts, IsHanded}
 use Rattle.machine_laws.specs.Sound.{IsSound}
+use Rattle.machine_laws.specs.Values.{HasCountOf}
+use Rattle.machine_laws.proofs.Lists.{mapped_length}
 use Rattle.machine_laws.proofs.EntryValues.{loosen}
 use Rattle.machine_laws.proofs.NumericValues.{then_some}
 use Rattle.machine_laws.proofs.Natives.{class_fits_string, string_type}
@@ -111,19 +114,51 @@ all_texts : (s : System) (t : ℕ) (nodes ns : List Node) → IsSound s → list
 all_texts s t nodes [] z h = tt
 all_texts s t nodes (n ∷ ns) z h = let a = both (node_fits s t nodes n) (list_all (node_fits s t nodes) ns) h in (node_texts s t nodes n z a.0, all_texts s t nodes ns z a.1)
 
--- a parcel that fits a domain has the texts
-pub parcel_texts : (s : System) (t : ℕ) (p : Parcel) → IsSound s → fits_domain s t p ≡ true → AllByRecursion (HasTexts p.nodes) p.nodes
+-- words that fit cells are as many
+cells_count : (s : System) (nodes : List Node) (ws : List Word) (types : List (List ℕ)) → cells_fit s nodes ws types ≡ true → length ws ≡ length types
+unfolding cells_fit
+cells_count s nodes [] [] h = refl
+cells_count s nodes [] (t ∷ types) h = cc
+cells_count s nodes (w ∷ ws) [] h = cc
+cells_count s nodes (w ∷ ws) (t ∷ types) h = ap suc (cells_count s nodes ws types (both (cell_fits s nodes w t) (cells_fit s nodes ws types) h).1)
+
+-- a node that fits has the cells of its class
+node_count : (s : System) (t : ℕ) (nodes : List Node) (n : Node) → node_fits s t nodes n ≡ true → HasCountOf s n.class.0 (length n.cells)
+unfolding node_fits cell_types passes
+node_count s t nodes n h other = by (class_at s n.class.0) (both (knows_class s t n.class.0) _ h).1
+  where
+    plain : (k : Class) (o : Option (List ℕ)) (b : Bool) → (n.class.0 == string_class) ≡ b →
+        cells_fit s nodes n.cells (elim o as (λ _. List (List ℕ)) [ Some type ↦ replicate (length n.cells) type | None ↦ if b then replicate (length n.cells) (codes "C") else map (λ (f : Field). f.descriptor) k.fields ]) ≡ true →
+        IfNone o (length n.cells ≡ length k.fields)
+    plain k (Some type) b e q = tt
+    plain k None true e q = absurd (other (eq_of n.class.0 string_class e))
+    plain k None false e q = cells_count s nodes n.cells (map (λ (f : Field). f.descriptor) k.fields) q ∙ mapped_length (λ (f : Field). f.descriptor) k.fields
+
+    by : (o : Option Class) → passes (λ k. cells_fit s nodes n.cells (cell_types k n.class.0 (length n.cells))) o ≡ true → IfSome o (λ k. IfNone k.component (length n.cells ≡ length k.fields))
+    by None q = tt
+    by (Some k) q = plain k k.component (n.class.0 == string_class) refl q
+
+all_counts : (s : System) (t : ℕ) (nodes ns : List Node) → list_all (node_fits s t nodes) ns ≡ true → AllByRecursion (λ n. HasCountOf s n.class.0 (length n.cells)) ns
+all_counts s t nodes [] h = tt
+all_counts s t nodes (n ∷ ns) h = let a = both (node_fits s t nodes n) (list_all (node_fits s t nodes) ns) h in (node_count s t nodes n a.0, all_counts s t nodes ns a.1)
+
+-- a parcel that fits a domain has the texts, and its nodes have the cells of their classes
+pub record IsFitted (s : System) (p : Parcel) : Type 0 where
+  pub texts : AllByRecursion (HasTexts p.nodes) p.nodes
+  pub counts : AllByRecursion (λ n. HasCountOf s n.class.0 (length n.cells)) p.nodes
+
+pub parcel_fitted : (s : System) (t : ℕ) (p : Parcel) → IsSound s → fits_domain s t p ≡ true → IsFitted s p
 unfolding fits_domain
-parcel_texts s t p z h = all_texts s t p.nodes p.nodes z h
+parcel_fitted s t p z h = record { texts = all_texts s t p.nodes p.nodes z h; counts = all_counts s t p.nodes p.nodes h }
 
 -- ---- moments
 
 -- the entry of a number
-record IsAt (past : Past) (e : Entry) : Type 0 where
-  before : Past
-  is : IsMoment past e before
+pub record IsAt (past : Past) (e : Entry) : Type 0 where
+  pub before : Past
+  pub is : IsMoment past e before
 
-nth_moment : (p : Entry → Bool) (past : Past) (n : ℕ) (e : Entry) → nth_entry p past n ≡ Some e → IsAt past e × (p e ≡ true)
+pub nth_moment : (p : Entry → Bool) (past : Past) (n : ℕ) (e : Entry) → nth_entry p past n ≡ Some e → IsAt past e × (p e ≡ true)
 unfolding nth_entry
 nth_moment p [] n e h = cc
 nth_moment p (x ∷ past) n e h = by (p x) (n == count_where p past + 1) refl h (nth_moment p past n e)
@@ -162,22 +197,22 @@ not_false : (b : Bool) → not b ≡ false → b ≡ true
 not_false true h = refl
 not_false false h = cc
 
--- a parcel that fits some domain has the texts
-some_texts : (s : System) (past : Past) (o : Option ℕ) (p : Parcel) → IsSound s → fits_domain_of s past o p ≡ true → AllByRecursion (HasTexts p.nodes) p.nodes
+-- so has a parcel that fits some domain
+some_fitted : (s : System) (past : Past) (o : Option ℕ) (p : Parcel) → IsSound s → fits_domain_of s past o p ≡ true → IsFitted s p
 unfolding fits_domain_of
-some_texts s past o p z h = let x = passed (λ t. fits_domain s t p) (option_and_then (template_of s past) o) h in parcel_texts s x.0 p z x.2
+some_fitted s past o p z h = let x = passed (λ t. fits_domain s t p) (option_and_then (template_of s past) o) h in parcel_fitted s x.0 p z x.2
 
-called_texts : (s : System) (past : Past) (d : ℕ) (k : ServiceId) (m : MethodId) (p : Parcel) → IsSound s → is_some (queued_as (called s past d k m p)) ≡ true → AllByRecursion (HasTexts p.nodes) p.nodes
+called_fitted : (s : System) (past : Past) (d : ℕ) (k : ServiceId) (m : MethodId) (p : Parcel) → IsSound s → is_some (queued_as (called s past d k m p)) ≡ true → IsFitted s p
 unfolding called
-called_texts s past d k m p z h =
+called_fitted s past d k m p z h =
     let a = unqueued _ _ _ h in let b = unqueued _ _ _ a.1 in let c = unqueued _ _ _ b.1 in let f = unqueued _ _ _ c.1 in
-    some_texts s past (owner_of past k.0) p z (not_false _ f.0)
+    some_fitted s past (owner_of past k.0) p z (not_false _ f.0)
 
-sent_texts : (s : System) (past : Past) (d c : ℕ) (p : Parcel) → IsSound s → is_done (sent_back s past d c p) ≡ true → AllByRecursion (HasTexts p.nodes) p.nodes
+sent_fitted : (s : System) (past : Past) (d c : ℕ) (p : Parcel) → IsSound s → is_done (sent_back s past d c p) ≡ true → IsFitted s p
 unfolding sent_back
-sent_texts s past d c p z h =
+sent_fitted s past d c p z h =
     let a = undone _ _ _ h in let b = undone _ _ _ a.1 in let f = undone _ _ _ b.1 in
-    some_texts s past (caller_of past c) p z (not_false _ f.0)
+    some_fitted s past (caller_of past c) p z (not_false _ f.0)
 
 -- ---- parcels that are handed over
 
@@ -186,16 +221,16 @@ moment_grows past e before m = (m.0 ++ e ∷ [], m.1 ∙ sym (append_assoc m.0 (
 
 -- a parcel is one that a domain can have, of a longer past too
 pub handed_grows : (s : System) (old new : Past) (p : Parcel) → HasGrown old new → IsHanded s old p → IsHanded s new p
-handed_grows s old new p g h = record { parcel = (stays_well_made s old new (act.Return (record { 0 = 0 }) p) g (h.parcel, omega arith)).0; texts = h.texts }
+handed_grows s old new p g h = record { parcel = (stays_well_made s old new (act.Return (record { 0 = 0 }) p) g (h.parcel, omega arith)).0; texts = h.texts; counts = h.counts }
 
 asked_is : (x : Act) (a : Asked) → asked_by x ≡ Some a → x ≡ act.Call a.service a.method a.parcel
 unfolding asked_by
 asked_is (act.Call k m p) a e = let q : record { service = k; method = m; parcel = p } ≡ a = cc in ap (λ (a : Asked). act.Call a.service a.method a.parcel) q
 asked_is _ a e = cc
 
-call_texts : (s : System) (past : Past) (d : ℕ) (a : Asked) → IsSound s → is_some (queued_as (reply_to s past d (act.Call a.service a.method a.parcel))) ≡ true → AllByRecursion (HasTexts a.parcel.nodes) a.parcel.nodes
+call_fitted : (s : System) (past : Past) (d : ℕ) (a : Asked) → IsSound s → is_some (queued_as (reply_to s past d (act.Call a.service a.method a.parcel))) ≡ true → IsFitted s a.parcel
 unfolding reply_to
-call_texts s past d a z h = called_texts s past d a.service a.method a.parcel z h
+call_fitted s past d a z h = called_fitted s past d a.service a.method a.parcel z h
 
 return_reply : (s : System) (past : Past) (d : ℕ) (c : CallId) (p : Parcel) → reply_to s past d (act.Return c p) ≡ sent_back s past d c.0 p
 unfolding reply_to
@@ -215,10 +250,8 @@ asked_in s past c a z h e =
     let w : IsWellMade s m.0.before (act.Call a.service a.method a.parcel) = subst (IsWellMade s m.0.before) i n.well_made in
     let q : is_some (queued_as x.0.reply) ≡ true = (both (is_some (asked_by x.0.act)) (is_some (queued_as x.0.reply)) m.1).1 in
     let r : x.0.reply ≡ reply_to s m.0.before x.0.domain.0 (act.Call a.service a.method a.parcel) = n.reply ∙ ap (reply_to s m.0.before x.0.domain.0) i in
-    handed_grows s m.0.before past a.parcel (moment_grows past x.0 m.0.before m.0.is) (record {
-      parcel = w.1;
-      texts = call_texts s m.0.before x.0.domain.0 a z (subst (λ (r : Reply). is_some (queued_as r) ≡ true) r q);
-    })
+    let fitted = call_fitted s m.0.before x.0.domain.0 a z (subst (λ (r : Reply). is_some (queued_as r) ≡ true) r q) in
+    handed_grows s m.0.before past a.parcel (moment_grows past x.0 m.0.before m.0.is) (record { parcel = w.1; texts = fitted.texts; counts = fitted.counts })
 
 -- what an answer carries was sent back and fits
 record IsSent (x : Act) (r : Reply) (p : Parcel) : Type 0 where
@@ -282,12 +315,12 @@ answered_is past e c a p q h = by (answered_by_act c e.act e.reply) (ends_server
 sent_in : (s : System) (before : Past) (e : Entry) (p : Parcel) → IsSound s → IsNext s before e → IsSent e.act e.reply p → IsHanded s before p
 sent_in s before e p z n k = by k.sent
   where
-    texts : (x : Act) → e.act ≡ x → reply_to s before e.domain.0 x ≡ sent_back s before e.domain.0 k.call.0 p → AllByRecursion (HasTexts p.nodes) p.nodes
-    texts x i j = sent_texts s before e.domain.0 k.call.0 p z (subst (λ (r : Reply). is_done r ≡ true) (n.reply ∙ ap (reply_to s before e.domain.0) i ∙ j) k.done)
+    fitted : (x : Act) → e.act ≡ x → reply_to s before e.domain.0 x ≡ sent_back s before e.domain.0 k.call.0 p → IsFitted s p
+    fitted x i j = sent_fitted s before e.domain.0 k.call.0 p z (subst (λ (r : Reply). is_done r ≡ true) (n.reply ∙ ap (reply_to s before e.domain.0) i ∙ j) k.done)
 
     by : (e.act ≡ act.Return k.call p) ⊎ (e.act ≡ act.Throw k.call p) → IsHanded s before p
-    by (inl i) = record { parcel = (subst (IsWellMade s before) i n.well_made).0; texts = texts (act.Return k.call p) i (return_reply s before e.domain.0 k.call p) }
-    by (inr i) = record { parcel = (subst (IsWellMade s before) i n.well_made).0; texts = texts (act.Throw k.call p) i (throw_reply s before e.domain.0 k.call p) }
+    by (inl i) = record { parcel = (subst (IsWellMade s before) i n.well_made).0; texts = (fitted (act.Return k.call p) i (return_reply s before e.domain.0 k.call p)).texts; counts = (fitted (act.Return k.call p) i (return_reply s before e.domain.0 k.call p)).counts }
+    by (inr i) = record { parcel = (subst (IsWellMade s before) i n.well_made).0; texts = (fitted (act.Throw k.call p) i (throw_reply s before e.domain.0 k.call p)).texts; counts = (fitted (act.Throw k.call p) i (throw_reply s before e.domain.0 k.call p)).counts }
 
 pub answer_in : (s : System) (past : Past) (c : ℕ) (a : Answer) (p : Parcel) → IsSound s → IsAdmittedPast s past → answer_of past c ≡ Some a → Carries a p → IsHanded s past p
 unfolding answer_of

@@ -1,6 +1,6 @@
 -- What a store holds, as it grows and as its objects change.
 use Rattle.std.proofs.Common.{◌≡◌, refl, sym, ◌∙◌, ap, subst, ℕ, zero, suc, ◌+◌, ◌-◌, ◌≤◌, pos, Bool, true, false, List, [], ◌∷◌, ◌++◌, length, map, replicate, Option, Some, None, is_some, arith, slice_get}
-use Rattle.std.specs.Prelude.{slice_set, nat_le, if◌then◌else◌}
+use Rattle.std.specs.Prelude.{slice_set, nat_le, if◌then◌else◌, IfSome, IfNone}
 use Rattle.std.specs.List.{AllByRecursion}
 use Rattle.std.proofs.lemmas.Bool.Decides.{nat_tests}
 use Rattle.jx_base.specs.declared.frame.Frame.{Frame}
@@ -19,10 +19,10 @@ use Rattle.machine_model.specs.State.{Store, Stage, Going, Returned, Threw, Bad,
 use Rattle.program_model.specs.Types.{is_int_type, is_long_type}
 use Rattle.jx_model.specs.WellMade.{IsClass}
 use Rattle.jx_model.proofs.Growing.{portal_grows}
-use Rattle.machine_laws.specs.Values.{IsValueIn, IsValueInSome, IsUnitValue, IsObject, IsObjectIn, IsExportIn, IsStoreIn, IsFrameIn, IsStageIn, IsThreadIn, IsStateIn, HasObjectsOf, Grows, cell_limit}
+use Rattle.machine_laws.specs.Values.{IsValueIn, IsValueInSome, IsUnitValue, IsObject, HasCountOf, IsObjectIn, IsExportIn, IsStoreIn, IsFrameIn, IsStageIn, IsThreadIn, IsStateIn, HasObjectsOf, Grows, cell_limit}
 use Rattle.machine_model.specs.Conditions.{IsTextIfObject}
 use Rattle.machine_laws.specs.Sound.{IsSound}
-use Rattle.machine_laws.proofs.Lists.{length_set, all_weaken, all_append, all_get, all_set, all_images}
+use Rattle.machine_laws.proofs.Lists.{length_set, mapped_length, all_weaken, all_append, all_get, all_set, all_images}
 use Rattle.std.specs.Option.{option_map}
 
 -- ---- growth
@@ -61,6 +61,7 @@ module _ (s : System) (p : Past) (before : Store) (q : Past) (after : Store) (g 
   pub object_grows : (o : HeapObject) → IsObjectIn s p before o → IsObjectIn s q after o
   object_grows o h = record {
     known = h.known;
+    count = h.count;
     small = h.small;
     cells = values_grow o.cells h.cells;
     units = h.units;
@@ -109,6 +110,7 @@ store_of_past s p q store g h = let k = past_grows p q store g in record {
   first = h.first;
   second = h.second;
   room = h.room;
+  count = h.count;
   objects = all_weaken (IsObjectIn s p store) (IsObjectIn s q store) (object_grows s p store q store k) store.objects h.objects;
   statics = values_grow s p store q store k store.statics h.statics;
   literals = h.literals;
@@ -156,7 +158,8 @@ pub record IsMade (s : System) (past : Past) (before : Store) (c : ℕ) (x : Sto
   pub object : class_of_object x.0 x.1 ≡ Some c
 
 -- the cells of a new object of that class
-pub record AreCellsOf (past : Past) (store : Store) (c : ℕ) (cells : List Value) : Type 0 where
+pub record AreCellsOf (s : System) (past : Past) (store : Store) (c : ℕ) (cells : List Value) : Type 0 where
+  pub count : HasCountOf s c (length cells)
   pub values : AllByRecursion (IsValueIn past store) cells
   pub units : c ≡ string_class → AllByRecursion IsUnitValue cells
   pub text : c ≡ builder_class → AllByRecursion (IsTextIfObject store) cells
@@ -172,7 +175,7 @@ new_class : (store : Store) (c : ℕ) (cells : List Value) → class_of_object (
 unfolding class_of_object
 new_class store c cells = ap (option_map (λ (o : HeapObject). o.class.0)) (get_last store.objects (record { class = record { 0 = c }; cells = cells }))
 
-store_with_in : (s : System) (past : Past) (store : Store) (c : ℕ) (cells : List Value) → IsStoreIn s past store → IsClass s c → AreCellsOf past store c cells → length cells + 2 ≤ store.left →
+store_with_in : (s : System) (past : Past) (store : Store) (c : ℕ) (cells : List Value) → IsStoreIn s past store → IsClass s c → AreCellsOf s past store c cells → length cells + 2 ≤ store.left →
     IsMade s past store c (store_with store c cells, length store.objects)
 store_with_in s past store c cells h k d room = record {
   grown = more;
@@ -180,6 +183,7 @@ store_with_in s past store c cells h k d room = record {
     first = object_there store after 0 more h.first;
     second = object_there store after 1 more h.second;
     room = omega (arith, h.room);
+    count = h.count;
     objects = all_append (IsObjectIn s past after) store.objects (object ∷ [])
         (all_weaken (IsObjectIn s past store) (IsObjectIn s past after) (object_grows s past store past after g) store.objects h.objects)
         (new, tt);
@@ -203,12 +207,12 @@ store_with_in s past store c cells h k d room = record {
     g = grows_to past store after more
 
     old : IsObjectIn s past store object
-    old = record { known = k; small = omega (arith, h.room, room); cells = d.values; units = d.units; text = d.text }
+    old = record { known = k; count = d.count; small = omega (arith, h.room, room); cells = d.values; units = d.units; text = d.text }
 
     new : IsObjectIn s past after object
     new = object_grows s past store past after g object old
 
-pub new_object_in : (s : System) (past : Past) (store : Store) (c : ℕ) (cells : List Value) (x : Store × ℕ) → IsStoreIn s past store → IsClass s c → AreCellsOf past store c cells →
+pub new_object_in : (s : System) (past : Past) (store : Store) (c : ℕ) (cells : List Value) (x : Store × ℕ) → IsStoreIn s past store → IsClass s c → AreCellsOf s past store c cells →
     new_object store c cells ≡ Some x → IsMade s past store c x
 unfolding new_object
 new_object_in s past store c cells x h k d e = by (nat_le (length cells + 2) store.left) refl e
@@ -220,7 +224,7 @@ new_object_in s past store c cells x h k d e = by (nat_le (length cells + 2) sto
     by false q e = cc
 
 -- an array of a filling
-pub new_array_in : (s : System) (past : Past) (store : Store) (c n : ℕ) (v : Value) (x : Store × ℕ) → IsStoreIn s past store → IsClass s c → AreCellsOf past store c (replicate n v) →
+pub new_array_in : (s : System) (past : Past) (store : Store) (c n : ℕ) (v : Value) (x : Store × ℕ) → IsStoreIn s past store → IsClass s c → AreCellsOf s past store c (replicate n v) →
     new_array store c n v ≡ Some x → IsMade s past store c x
 unfolding new_array
 new_array_in s past store c n v x h k d e = by (nat_le (n + 2) store.left) e
@@ -266,10 +270,20 @@ unfolding defaults_of
 defaults_texts s c store None = tt
 defaults_texts s c store (Some k) = all_images (IsTextIfObject store) (λ (f : Field). default_of f.descriptor) (λ f. default_text store f.descriptor) k.fields
 
+defaults_count : (s : System) (c : ℕ) (o : Option Class) → IfSome o (λ k. IfNone k.component (length (defaults_of s c o) ≡ length k.fields))
+unfolding defaults_of
+defaults_count s c None = tt
+defaults_count s c (Some k) = by k.component
+  where
+    by : (o : Option (List ℕ)) → IfNone o (length (map (λ (f : Field). default_of f.descriptor) k.fields) ≡ length k.fields)
+    by None = mapped_length (λ (f : Field). default_of f.descriptor) k.fields
+    by (Some type) = tt
+
 -- the cells of a new object have their defaults
-pub default_cells_in : (s : System) (past : Past) (store : Store) (c : ℕ) → IsSound s → AreCellsOf past store c (default_cells s c)
+pub default_cells_in : (s : System) (past : Past) (store : Store) (c : ℕ) → IsSound s → AreCellsOf s past store c (default_cells s c)
 unfolding default_cells defaults_of
 default_cells_in s past store c z = record {
+  count = λ e. defaults_count s c (class_at s c);
   values = defaults_values s c past store (class_at s c);
   units = λ e. subst (λ (k : ℕ). AllByRecursion IsUnitValue (default_cells s k)) (sym e) (subst (AllByRecursion IsUnitValue) (sym (string_defaults s z)) tt);
   text = λ e. defaults_texts s c store (class_at s c);
@@ -332,6 +346,7 @@ with_cell_in s past store r i v h m = by (slice_get store.objects r) refl
         first = object_there store after 0 more h.first;
         second = object_there store after 1 more h.second;
         room = h.room;
+        count = h.count;
         objects = all_set (IsObjectIn s past after) store.objects r new object
             (all_weaken (IsObjectIn s past store) (IsObjectIn s past after) (object_grows s past store past after g) store.objects h.objects);
         statics = values_grow s past store past after g store.statics h.statics;
@@ -361,6 +376,7 @@ with_cell_in s past store r i v h m = by (slice_get store.objects r) refl
         object : IsObjectIn s past after new
         object = object_grows s past store past after g new (record {
           known = old.known;
+          count = subst (HasCountOf s o.class.0) (sym (length_set o.cells i v)) old.count;
           small = omega (arith, old.small, length_set o.cells i v);
           cells = all_set (IsValueIn past store) o.cells i v m.value old.cells;
           units = λ q. all_set IsUnitValue o.cells i v (m.unit (of ∙ ap (λ (c : ℕ). Some c) q)) (old.units q);
@@ -416,15 +432,16 @@ object_class_in s past store r c h e = by (slice_get store.objects r) refl e
     by (Some o) q e = let z : o.class.0 ≡ c = cc in subst (IsClass s) z (all_get (IsObjectIn s past store) store.objects r o q h.objects).known
 
 -- another store with the same objects
-pub with_same_objects : (s : System) (past : Past) (before after : Store) → after.objects ≡ before.objects → IsStoreIn s past before → after.left ≤ cell_limit → AllByRecursion (IsValueIn past before) after.statics →
+pub with_same_objects : (s : System) (past : Past) (before after : Store) → after.objects ≡ before.objects → IsStoreIn s past before → after.left ≤ cell_limit → length after.statics ≡ length before.statics → AllByRecursion (IsValueIn past before) after.statics →
     AllByRecursion (λ (x : List ℕ × ℕ). IsObject before x.1) after.literals → AllByRecursion (IsExportIn past before) after.exports → IsLater s past before after
 unfolding class_of_object
-with_same_objects s past before after e h room statics literals exports = record {
+with_same_objects s past before after e h room count statics literals exports = record {
   grown = more;
   store = record {
     first = object_there before after 0 more h.first;
     second = object_there before after 1 more h.second;
     room = room;
+    count = count ∙ h.count;
     objects = subst (AllByRecursion (IsObjectIn s past after)) (sym e) (all_weaken (IsObjectIn s past before) (IsObjectIn s past after) (object_grows s past before past after g) before.objects h.objects);
     statics = values_grow s past before past after g after.statics statics;
     literals = literals_grow s past before past after g after.literals literals;

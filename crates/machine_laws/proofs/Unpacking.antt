@@ -1,5 +1,5 @@
 -- What a parcel that is handed over makes of a store.
-use Rattle.std.proofs.Common.{pos, negsuc, ◌≡◌, refl, ◌∙◌, ap, subst, ℕ, zero, suc, ◌+◌, ◌-◌, ◌<◌, ◌≤◌, Bool, true, false, List, [], ◌∷◌, ◌++◌, length, map, Some, None, is_some, arith, slice_get}
+use Rattle.std.proofs.Common.{pos, negsuc, ◌≡◌, refl, sym, ◌∙◌, ap, subst, ℕ, zero, suc, ◌+◌, ◌-◌, ◌<◌, ◌≤◌, Bool, true, false, List, [], ◌∷◌, ◌++◌, length, map, Some, None, is_some, arith, slice_get}
 use Rattle.std.specs.Prelude.{nat_le, if◌then◌else◌, flat_map}
 use Rattle.std.specs.List.{AllByRecursion, fold}
 use Rattle.std.proofs.lemmas.Bool.Decides.{nat_tests}
@@ -15,9 +15,9 @@ use Rattle.program_model.specs.Parcels.{HeapObject, value_of, unpacked_object, u
 use Rattle.machine_model.specs.State.{Store, class_of_object}
 use Rattle.jx_model.specs.WellMade.{IsWordIn, IsClass}
 use Rattle.machine_laws.specs.Handed.{IsUnitWord, IsTextWord, HasTexts, IsHanded}
-use Rattle.machine_laws.specs.Values.{IsValueIn, IsUnitValue, IsObjectIn, IsExportIn, IsStoreIn, HasObjectsOf, Grows, cell_limit}
+use Rattle.machine_laws.specs.Values.{IsValueIn, IsUnitValue, HasCountOf, IsObjectIn, IsExportIn, IsStoreIn, HasObjectsOf, Grows, cell_limit}
 use Rattle.machine_model.specs.Conditions.{IsTextIfObject}
-use Rattle.machine_laws.proofs.Lists.{all_weaken, all_append, all_map, all_left, all_right}
+use Rattle.machine_laws.proofs.Lists.{mapped_length, all_weaken, all_append, all_map, all_left, all_right}
 use Rattle.machine_laws.proofs.Stores.{IsLater, begins_with, object_there, grows_to, object_grows, export_grows, values_grow, literals_grow}
 use Rattle.std.specs.Option.{option_map}
 
@@ -30,10 +30,6 @@ folded_on (x ∷ xs) a = omega (arith, folded_on xs (a + node_size x))
 sizes_within : (xs : List Node) (a : ℕ) → AllByRecursion (λ n. node_size n ≤ fold (λ a x. a + node_size x) a xs) xs
 sizes_within [] a = tt
 sizes_within (x ∷ xs) a = (omega (arith, folded_on xs (a + node_size x)), sizes_within xs (a + node_size x))
-
-length_map : {X Y : Type 0} (f : X → Y) (xs : List X) → length (map f xs) ≡ length xs
-length_map f [] = refl
-length_map f (x ∷ xs) = ap suc (length_map f xs)
 
 get_right : (xs ys : List HeapObject) (k n : ℕ) → n ≡ length xs + k → slice_get (xs ++ ys) n ≡ slice_get ys k
 get_right [] ys k n e = ap (slice_get ys) (omega (arith, e))
@@ -98,18 +94,19 @@ module _ (s : System) (past : Past) (store : Store) (p : Parcel) (h : IsStoreIn 
   word_text (word.Node n) k = node_class n ∙ k
 
   objects_in : (nodes : List Node) → AllByRecursion (λ n. IsClass s n.class.0) nodes → AllByRecursion (λ n. length n.cells ≤ cell_limit) nodes → AllByRecursion (IsWordIn past (length p.nodes)) (flat_map (λ n. n.cells) nodes) →
-      AllByRecursion (HasTexts p.nodes) nodes → AllByRecursion (IsObjectIn s past after) (map (unpacked_object (length store.objects)) nodes)
+      AllByRecursion (HasTexts p.nodes) nodes → AllByRecursion (λ n. HasCountOf s n.class.0 (length n.cells)) nodes → AllByRecursion (IsObjectIn s past after) (map (unpacked_object (length store.objects)) nodes)
   unfolding unpacked_object
-  objects_in [] c l w t = tt
-  objects_in (n ∷ nodes) c l w t = (
+  objects_in [] c l w t k = tt
+  objects_in (n ∷ nodes) c l w t k = (
     record {
       known = c.0;
-      small = omega (arith, l.0, length_map (value_of (length store.objects)) n.cells);
+      count = subst (HasCountOf s n.class.0) (sym (mapped_length (value_of (length store.objects)) n.cells)) k.0;
+      small = omega (arith, l.0, mapped_length (value_of (length store.objects)) n.cells);
       cells = all_map (IsWordIn past (length p.nodes)) (IsValueIn past after) (value_of (length store.objects)) word_value n.cells (all_left (IsWordIn past (length p.nodes)) n.cells (flat_map (λ n. n.cells) nodes) w);
       units = λ e. all_map IsUnitWord IsUnitValue (value_of (length store.objects)) word_unit n.cells (t.0.units e);
       text = λ e. all_map (IsTextWord p.nodes) (IsTextIfObject after) (value_of (length store.objects)) word_text n.cells (t.0.text e);
     },
-    objects_in nodes c.1 l.1 (all_right (IsWordIn past (length p.nodes)) n.cells (flat_map (λ n. n.cells) nodes) w) t.1,
+    objects_in nodes c.1 l.1 (all_right (IsWordIn past (length p.nodes)) n.cells (flat_map (λ n. n.cells) nodes) w) t.1 k.1,
   )
 
   small_nodes : node_cells p ≤ store.left → AllByRecursion (λ n. length n.cells ≤ cell_limit) p.nodes
@@ -124,9 +121,10 @@ module _ (s : System) (past : Past) (store : Store) (p : Parcel) (h : IsStoreIn 
       first = object_there store after 0 more h.first;
       second = object_there store after 1 more h.second;
       room = omega (arith, h.room);
+      count = h.count;
       objects = all_append (IsObjectIn s past after) store.objects (map (unpacked_object (length store.objects)) p.nodes)
           (all_weaken (IsObjectIn s past store) (IsObjectIn s past after) (object_grows s past store past after g) store.objects h.objects)
-          (objects_in p.nodes i.parcel.classes (small_nodes room) (all_right (IsWordIn past (length p.nodes)) p.roots (flat_map (λ n. n.cells) p.nodes) i.parcel.cells) i.texts);
+          (objects_in p.nodes i.parcel.classes (small_nodes room) (all_right (IsWordIn past (length p.nodes)) p.roots (flat_map (λ n. n.cells) p.nodes) i.parcel.cells) i.texts i.counts);
       statics = values_grow s past store past after g store.statics h.statics;
       literals = literals_grow s past store past after g store.literals h.literals;
       exports = all_weaken (IsExportIn past store) (IsExportIn past after) (export_grows s past store past after g) store.exports h.exports;

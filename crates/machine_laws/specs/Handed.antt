@@ -1,5 +1,5 @@
 -- What a reply hands to a domain.
-use Rattle.std.specs.Prelude.{FitsSigned, ◌≡◌, ◌<◌, pos, List, Some, slice_get}
+use Rattle.std.specs.Prelude.{FitsSigned, ◌≡◌, ◌<◌, pos, List, length, Some, slice_get}
 use Rattle.std.specs.List.{AllByRecursion}
 use Rattle.std.specs.Int.{w32}
 use Rattle.jx_base.specs.declared.act.Act.{Act}
@@ -15,6 +15,7 @@ use Rattle.program_model.specs.BuiltIn.{string_class, builder_class}
 use Rattle.jx_base.specs.Histories.{Past}
 use Rattle.jx_model.specs.WellMade.{IsParcelIn, IsPortalIn}
 use Rattle.program_model.specs.Ranges.{IsId}
+use Rattle.machine_laws.specs.Values.{HasCountOf}
 use Rattle.std.specs.Option.{option_map}
 
 -- an int of sixteen bits without a sign
@@ -32,10 +33,11 @@ pub record HasTexts (nodes : List Node) (n : Node) : Type 0 where
   pub units : n.class.0 ≡ string_class → AllByRecursion IsUnitWord n.cells
   pub text : n.class.0 ≡ builder_class → AllByRecursion (IsTextWord nodes) n.cells
 
--- a parcel that a domain can have
+-- a parcel that a domain can have; its nodes have the cells of their classes
 pub record IsHanded (s : System) (past : Past) (p : Parcel) : Type 0 where
   pub parcel : IsParcelIn s past p
   pub texts : AllByRecursion (HasTexts p.nodes) p.nodes
+  pub counts : AllByRecursion (λ n. HasCountOf s n.class.0 (length n.cells)) p.nodes
 
 -- a number is of 32 bits, a portal is one of the past, and a parcel is one that a domain can have
 abbrev pub IsReplyIn : System → Past → Reply → Type 0

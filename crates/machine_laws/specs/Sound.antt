@@ -1,5 +1,5 @@
 -- What the laws ask of a system: what linking gives it, and the ranges of what its class files have.
-use Rattle.std.specs.Prelude.{FitsSigned, List, codes, ◌≡◌, ℕ, ◌<◌, ◌≤◌, true, false, Some, IsSome, ◌⊎◌, slice_get}
+use Rattle.std.specs.Prelude.{FitsSigned, List, codes, length, ◌≡◌, ℕ, ◌<◌, ◌≤◌, true, false, Some, IsSome, ◌⊎◌, slice_get}
 use Rattle.std.specs.List.{AllByRecursion}
 use Rattle.std.specs.Int.{w32, w64}
 use Rattle.jx_base.specs.declared.frame.Frame.{Frame}
@@ -17,25 +17,28 @@ use Rattle.machine_model.specs.ObjectRows.{field_type}
 use Rattle.class_grammar.specs.Opcodes.{row_at}
 use Rattle.jx_base.specs.declared.ids.ClassId.{ClassId}
 use Rattle.jx_base.specs.declared.row.Row.TheVariants as row
-use Rattle.machine_model.specs.State.{code_of, code_bytes, class_of_frame, stack_limit, frame_with, pc_behind, handler_in}
+use Rattle.machine_model.specs.State.{static_types, code_of, code_bytes, class_of_frame, stack_limit, frame_with, pc_behind, handler_in}
 use Rattle.machine_model.specs.NumericRows.{Locals, Stack, numeric_row}
 use Rattle.machine_model.specs.NumericRows.{NumericOutcome as numeric}
 use Rattle.jx_base.specs.declared.class_file.Code.{Code}
 use Rattle.jx_model.specs.WellMade.{IsClass}
 use Rattle.machine_laws.specs.Values.{cell_limit, IsPlaced}
 
--- what a constant means is in its range: a number of its width, a text of units, or a class of the system
+-- what a constant means is in its range: a number of its width, a text of units, or a class or a static field of the system
 abbrev pub IsResolvedIn : System → Resolved → Type 0
 IsResolvedIn s (resolved.Int n) = FitsSigned w32 n
 IsResolvedIn s (resolved.Long n) = FitsSigned w64 n
 IsResolvedIn s (resolved.Str text) = AllByRecursion (λ u. u < 65536) text
 IsResolvedIn s (resolved.Class c) = IsClass s c.0
+IsResolvedIn s (resolved.Static c i) = i < length (static_types s)
 IsResolvedIn s _ = Unit {0}
 
--- the built-in classes stand first, what fits the type of one that is no interface is below it, nothing extends String or StringBuilder, numbers lie in their ranges, and heaps within their limit
+-- the built-in classes stand first, a name with dimensions is that of an array, what fits the type of one that is no interface is below it, nothing extends String or StringBuilder, numbers lie in their ranges, and heaps within their limit
 pub record IsSound (s : System) : Type 0 where
   pub built_in : (c : ℕ) → c < built_in_count → class_at s c ≡ slice_get built_in_table c
   pub names : (c : ℕ) (k : Class) → c < built_in_count → slice_get built_in_table c ≡ Some k → class_named s k.name ≡ Some c
+  pub arrays : (c : ℕ) (k : Class) → class_at s c ≡ Some k → 1 ≤ dimensions_of k.name → IsSome k.component
+  pub memories : IsSome (class_named s (codes "[Ljx/Memory;"))
   pub receivers : (a c : ℕ) → c < built_in_count → is_interface s c ≡ false → shape_fits_class s true (ObjectShape a) c ≡ true → is_below s a c ≡ true
   pub interfaces : (c : ℕ) → c < built_in_count → is_interface s c ≡ true → c ≡ portal_class
   pub string_fields : (c i : ℕ) (type : List ℕ) → class_fits s string_class c ≡ true → field_type s c i ≡ Some type → ⊥

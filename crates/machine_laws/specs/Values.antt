@@ -1,5 +1,5 @@
 -- What a state of a domain holds, against the past of its system.
-use Rattle.std.specs.Prelude.{pos, FitsSigned, ◌≡◌, ℕ, ◌<◌, ◌≤◌, length, Option, Some, None, IsSome, IfSome, Contains}
+use Rattle.std.specs.Prelude.{pos, FitsSigned, ◌≡◌, ◌≢◌, ℕ, ◌<◌, ◌≤◌, length, Option, Some, None, IsSome, IfSome, IfNone, Contains}
 use Rattle.std.specs.List.{AllByRecursion}
 use Rattle.std.specs.Int.{w32, w64}
 use Rattle.jx_base.specs.declared.frame.Frame.{Frame}
@@ -9,14 +9,14 @@ use Rattle.jx_base.specs.declared.value.Value.TheVariants as value
 use Rattle.jx_base.specs.declared.program.Method.{Method}
 use Rattle.jx_base.specs.declared.program.System.{System}
 use Rattle.program_model.specs.Instructions.{Reading, instruction_at}
-use Rattle.program_model.specs.Lookup.{method_at}
+use Rattle.program_model.specs.Lookup.{class_at, method_at}
 use Rattle.program_model.specs.BuiltIn.{string_class, builder_class}
 use Rattle.jx_base.specs.Histories.{Past}
 use Rattle.jx_model.specs.Moments.{HasGrown}
 use Rattle.program_model.specs.Parcels.{HeapObject}
 use Rattle.jx_model.specs.WellMade.{IsClass, IsPortalIn}
 use Rattle.program_model.specs.Ranges.{IsId}
-use Rattle.machine_model.specs.State.{Store, Stage, Returned, Threw, Thread, State, class_of_object, code_of, code_bytes, stack_limit}
+use Rattle.machine_model.specs.State.{Store, Stage, Returned, Threw, Thread, State, class_of_object, static_types, code_of, code_bytes, stack_limit}
 use Rattle.machine_model.specs.Conditions.{local_count, IsTextIfObject}
 
 -- the cells that a heap has at most
@@ -46,9 +46,14 @@ abbrev pub IsUnitValue : Value → Type 0
 IsUnitValue (value.Int (pos n)) = n < 65536
 IsUnitValue _ = ⊥
 
--- an object is of a class of the system, no larger than a heap, and of values; a String's are units, and what a StringBuilder refers to is a String
+-- so many cells are those of an object of the class, where it is neither an array nor a String
+abbrev pub HasCountOf : System → ℕ → ℕ → Type 0
+HasCountOf s c n = c ≢ string_class → IfSome (class_at s c) (λ k. IfNone k.component (n ≡ length k.fields))
+
+-- an object is of a class of the system, with the cells of that class, no larger than a heap, and of values; a String's are units, and what a StringBuilder refers to is a String
 pub record IsObjectIn (s : System) (past : Past) (store : Store) (o : HeapObject) : Type 0 where
   pub known : IsClass s o.class.0
+  pub count : HasCountOf s o.class.0 (length o.cells)
   pub small : length o.cells ≤ cell_limit
   pub cells : AllByRecursion (IsValueIn past store) o.cells
   pub units : o.class.0 ≡ string_class → AllByRecursion IsUnitValue o.cells
@@ -59,12 +64,13 @@ pub record IsExportIn (past : Past) (store : Store) (x : Exported) : Type 0 wher
   pub object : IsObject store x.object
   pub known : IsPortalIn past x.service.0 x.iface
 
--- a store: object 0 is there, to be thrown for want of room, and object 1, which main is passed
+-- a store: object 0 is there, to be thrown for want of room, and object 1, which main is passed; it has the static fields of all classes
 pub record IsStoreIn (s : System) (past : Past) (store : Store) : Type 0 where
   pub first : IsObject store 0
   pub second : IsObject store 1
   pub room : store.left ≤ cell_limit
   pub objects : AllByRecursion (IsObjectIn s past store) store.objects
+  pub count : length store.statics ≡ length (static_types s)
   pub statics : AllByRecursion (IsValueIn past store) store.statics
   pub literals : AllByRecursion (λ x. IsObject store x.1) store.literals
   pub exports : AllByRecursion (IsExportIn past store) store.exports

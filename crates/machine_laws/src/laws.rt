@@ -3,7 +3,7 @@
 ghost use Rattle.jx_base.specs.Histories.{own_entries, past_of};
 ghost use Rattle.jx_model.specs.Legal.{IsAdmitted};
 ghost use Rattle.machine_laws.specs.Law.{AskedIsWellMade, NextIsWellMade, StandingHoldsValues};
-ghost use Rattle.machine_laws.specs.Law.{StatesHoldValues};
+ghost use Rattle.machine_laws.specs.Law.{StandingCoresHold, StatesHoldValues};
 ghost use Rattle.machine_laws.specs.Sound.{IsSound};
 ghost use Rattle.machine_laws.specs.Standing.{StandingHolds};
 
@@ -29,4 +29,12 @@ pub fn next_act_is_well_made(system: &System, history: &History)
     requires admitted { IsAdmitted system.now history.now }
     ensures next { NextIsWellMade system.now (past_of history.now) }
     ensures asked { AskedIsWellMade system.now (past_of history.now) }
+{}
+
+/// A thread that goes on can be stepped, in each state that stands for a domain on the way to its
+/// next act.
+pub fn standing_cores_hold(system: &System, history: &History)
+    requires sound { IsSound system.now }
+    requires admitted { IsAdmitted system.now history.now }
+    ensures { StandingCoresHold system.now (past_of history.now) }
 {}

@@ -26,11 +26,13 @@ use Rattle.jx_base.specs.Basics.{contains_number}
 use Rattle.link_model.specs.LinkFaults.{IsLinked}
 use Rattle.class_grammar.specs.ReadFiles.{IsReadFile}
 use Rattle.link_laws.proofs.Files.{HasUnits, IsFile}
-use Rattle.link_laws.proofs.Lists.{Among, of_each, at_among, each_among, position_at, same_there}
+use Rattle.link_laws.proofs.Lists.{Among, below_length, of_each, at_among, each_among, position_at, same_there}
 use Rattle.link_laws.proofs.Names.{are_files}
 use Rattle.link_laws.proofs.Origins.{IsOutlined, IsBuiltIn, IsOfFile, IsOfArray, is_outlined, class_linked, class_outlined, meant_of}
 use Rattle.link_laws.proofs.Uses.{and_then_some, mapped_some, some_given}
 use Rattle.machine_laws.specs.Sound.{IsResolvedIn}
+use Rattle.machine_model.specs.State.{static_types}
+use Rattle.sound_laws.proofs.Statics.{static_below}
 use Rattle.std.specs.Option.{option_map}
 
 -- ---- the constants of a file
@@ -172,15 +174,19 @@ of_empty [] i x e h = cc
 of_empty (y ∷ xs) i x e h = cc
 
 -- a field's meaning is in its range
-field_ranged : (s o : System) (y : Selector) (c : ℕ) (x : Resolved) → own_field o y c ≡ Some x → IsResolvedIn s x
+field_ranged : (s o : System) (y : Selector) (c : ℕ) (x : Resolved) → ((k : Class) (i : ℕ) → class_at o c ≡ Some k → i < length k.statics → statics_before o c + i < length (static_types s))
+    → own_field o y c ≡ Some x → IsResolvedIn s x
 unfolding own_field own_instance_field own_static_field
-field_ranged s o y c x e =
+field_ranged s o y c x below e =
     let k = and_then_some (class_at o c) (λ k. elim (own_instance_field y c k) as (λ _. Option Resolved) [ Some r ↦ Some r | None ↦ own_static_field o y c k ]) x e in
-    by k.0 (own_instance_field y c k.0) refl k.2
+    by k.0 k.1 (own_instance_field y c k.0) refl k.2
   where
-    by : (k : Class) (p : Option Resolved) → own_instance_field y c k ≡ p → (elim p as (λ _. Option Resolved) [ Some r ↦ Some r | None ↦ own_static_field o y c k ]) ≡ Some x → IsResolvedIn s x
-    by k (Some r) g q = let i = mapped_some (λ (i : ℕ). resolved.Instance (record { 0 = c }) i) _ r g in subst (IsResolvedIn s) (i.2 ∙ same_there r x q) tt
-    by k None g q = let i = mapped_some (λ (i : ℕ). resolved.Static (record { 0 = c }) (statics_before o c + i)) _ x q in subst (IsResolvedIn s) i.2 tt
+    by : (k : Class) → class_at o c ≡ Some k → (p : Option Resolved) → own_instance_field y c k ≡ p → (elim p as (λ _. Option Resolved) [ Some r ↦ Some r | None ↦ own_static_field o y c k ]) ≡ Some x → IsResolvedIn s x
+    by k w (Some r) g q = let i = mapped_some (λ (i : ℕ). resolved.Instance (record { 0 = c }) i) _ r g in subst (IsResolvedIn s) (i.2 ∙ same_there r x q) tt
+    by k w None g q =
+        let i = mapped_some (λ (i : ℕ). resolved.Static (record { 0 = c }) (statics_before o c + i)) _ x q in
+        let there = position_at _ k.statics i.0 i.1 in
+        subst (IsResolvedIn s) i.2 (below k i.0 w (below_length k.statics i.0 there.0 there.1))
 
 module _ (plan : Plan) (files : List ClassFile) (s : System) (from : IsLinked plan files s) where
   -- the class of a name is one of the system
@@ -202,7 +208,7 @@ module _ (plan : Plan) (files : List ClassFile) (s : System) (from : IsLinked pl
   meaning_ranged f (constant.Field c d) x units k e =
       let r = and_then_some (class_named (outline plan files) (class_name_in f c)) (found_field (outline plan files) (selector_in f d)) x e in
       let g = some_given (own_field (outline plan files) (selector_in f d)) (supers_of (outline plan files) r.0) x r.2 in
-      field_ranged s (outline plan files) (selector_in f d) g.0 x g.2
+      field_ranged s (outline plan files) (selector_in f d) g.0 x (λ k i. static_below plan files s from g.0 k i) g.2
   meaning_ranged f (constant.Method c d) x units k e = let r = mapped_some (λ (m : ℕ). resolved.Method m) _ x e in subst (IsResolvedIn s) r.2 tt
   meaning_ranged f (constant.InterfaceMethod c d) x units k e = let r = mapped_some (λ (m : ℕ). resolved.Method m) _ x e in subst (IsResolvedIn s) r.2 tt
   meaning_ranged f k x units h e = absurd cc
