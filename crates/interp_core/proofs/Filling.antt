@@ -1,5 +1,5 @@
 -- The cells of the newest object, filled one after the other, and a cell that is put.
-use Rattle.std.proofs.Common.{◌≡◌, refl, sym, ◌∙◌, ap, subst, ℕ, zero, suc, ◌+◌, ◌-◌, ◌<◌, ◌≤◌, Bool, true, false, List, [], ◌∷◌, ◌++◌, length, take, get_or, set, replicate, Option, Some, None, arith, slice_get, append_assoc, length-append, append-nil}
+use Rattle.std.proofs.Common.{◌≡◌, refl, sym, ◌∙◌, ap, subst, ℕ, zero, suc, ◌+◌, ◌-◌, ◌<◌, ◌≤◌, Bool, true, false, List, [], ◌∷◌, ◌++◌, length, take, set, replicate, Option, Some, None, arith, slice_get, append_assoc, length-append, append-nil}
 use Rattle.std.specs.Prelude.{nat_le, nat_lt, if◌then◌else◌}
 use Rattle.std.proofs.lemmas.Bool.Decides.{nat_tests}
 use Rattle.std.proofs.lemmas.List.{set_at, take_more, length-take-le, length-replicate, take_all}
@@ -10,7 +10,7 @@ use Rattle.jx_base.specs.declared.value.Value.TheVariants as value
 use Rattle.program_model.specs.Parcels.{HeapObject, cells_at}
 use Rattle.domain_heap.specs.Heaps as heap
 use Rattle.domain_heap.specs.Heaps.{object_with}
-use Rattle.machine_model.specs.State.{Store, cells_of, class_of_object, with_cell, new_object, new_array}
+use Rattle.machine_model.specs.State.{Store, cells_of, with_cell, new_object, new_array}
 use Rattle.interp_core.specs.Making.{Makes, heap_with}
 
 get_last : (objects : List HeapObject) (o : HeapObject) → slice_get (objects ++ o ∷ []) (length objects) ≡ Some o

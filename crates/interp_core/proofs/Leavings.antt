@@ -1,6 +1,6 @@
 -- How the running frame leaves its instruction.
-use Rattle.std.proofs.Common.{◌≡◌, ℕ, zero, suc, ◌+◌, ◌≤◌, ◌<◌, Bool, true, false, List, [], ◌∷◌, ◌++◌, length, drop, reverse, Option, Some, None, refl, sym, ap, ◌∙◌, subst, arith, All}
-use Rattle.std.specs.Prelude.{not, nat_lt, if◌then◌else◌, slice_get}
+use Rattle.std.proofs.Common.{◌≡◌, ℕ, zero, suc, ◌+◌, ◌≤◌, ◌<◌, Bool, true, false, List, [], ◌∷◌, ◌++◌, drop, reverse, Option, Some, None, refl, sym, ap, ◌∙◌, subst, arith, All}
+use Rattle.std.specs.Prelude.{not, nat_lt, if◌then◌else◌}
 use Rattle.std.proofs.lemmas.Bool.Decides.{nat_tests}
 use Rattle.std.proofs.lemmas.List.{reverse-append, drop-drop}
 use Rattle.std.proofs.lemmas.List.Elements.{All-head}
@@ -9,11 +9,11 @@ use Rattle.jx_base.specs.declared.program.System.{System}
 use Rattle.jx_base.specs.declared.value.Value.{Value}
 use Rattle.jx_base.specs.Basics.{passes}
 use Rattle.jx_base.specs.Stacks.{StackState}
-use Rattle.interp_num.proofs.Depths.{depth_cons, some_slot, length_within}
+use Rattle.interp_num.proofs.Depths.{depth_cons}
 use Rattle.machine_model.specs.Conditions.{IsFrameOf}
-use Rattle.machine_model.specs.NumericRows.{Stack, Locals, depth_of, slots_of}
-use Rattle.machine_model.specs.ObjectRows.{ObjectOutcome, Next, BadCode, leaves, next_unless_overfull, with_result}
-use Rattle.machine_model.specs.State.{Store, Core, code_of, frame_behind, is_overfull, pc_behind, stack_limit, with_running, with_values}
+use Rattle.machine_model.specs.NumericRows.{Stack, depth_of, slots_of}
+use Rattle.machine_model.specs.ObjectRows.{Next, BadCode, leaves, next_unless_overfull, with_result}
+use Rattle.machine_model.specs.State.{Store, Core, frame_behind, is_overfull, pc_behind, stack_limit, with_running, with_values}
 use Rattle.interp_core.specs.Cores.{running_stack}
 
 depth_none : depth_of [] ≡ 0

@@ -1,5 +1,5 @@
 -- The bytes behind the operands of an instruction, by their lengths.
-use Rattle.std.specs.Prelude.{ℕ, zero, suc, ◌+◌, ◌*◌, ℤ, pos, ◌-ℤ◌, int_lt, int_le, unsigned_abs, Bool, true, ◌&&◌, ◌||◌, not, ◌==◌, List, [], ◌∷◌, length, take, drop, Option, Some, None, Result, Ok, Err, nat_lt, nat_le, if◌then◌else◌}
+use Rattle.std.specs.Prelude.{ℕ, zero, suc, ◌+◌, ◌*◌, ℤ, pos, ◌-ℤ◌, int_lt, int_le, unsigned_abs, Bool, true, ◌&&◌, not, ◌==◌, List, [], ◌∷◌, length, take, drop, Option, Some, None, Result, Ok, Err, nat_lt, nat_le, if◌then◌else◌}
 use Rattle.std.specs.Int.{w32, cast_signed, from_be_bytes}
 use Rattle.std.specs.Option.{option_and_then, option_map}
 use Rattle.class_grammar.specs.CodeGrammar.{padding_length}

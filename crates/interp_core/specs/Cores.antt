@@ -1,5 +1,5 @@
 -- What a core is seen as, and what the steps of a domain ask of it.
-use Rattle.std.specs.Prelude.{◌≤◌, ◌<◌, ◌^◌, ℕ, [], length, reverse, All, slice_get}
+use Rattle.std.specs.Prelude.{◌≤◌, ◌<◌, ◌^◌, [], length, reverse, All, slice_get}
 use Rattle.std.specs.Option.{option_map, unwrap_or}
 use Rattle.class_grammar.specs.ClassGrammar.{IsShortCode}
 use Rattle.jx_base.specs.declared.program.System.{System}

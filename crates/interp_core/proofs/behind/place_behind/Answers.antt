@@ -1,4 +1,4 @@
-use Rattle.std.proofs.Common.{◌≡◌, ◌∙◌, ◌-◌, List, ℕ, Some, length, drop, option_map, sym, ap, arith}
+use Rattle.std.proofs.Common.{◌∙◌, ◌-◌, List, ℕ, length, option_map, sym, ap}
 use Rattle.interp_core.specs.Behind.{behind_instruction}
 use Rattle.interp_core.proofs.BehindParts.{place_is, none_past, within, past, bytes_are}
 use Rattle.interp_core.proofs.behind.place_behind.Goals as goal

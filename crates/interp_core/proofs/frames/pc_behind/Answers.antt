@@ -1,4 +1,4 @@
-use Rattle.std.proofs.Common.{◌≡◌, sym, ap, length, arith}
+use Rattle.std.proofs.Common.{sym, ap, length, arith}
 use Rattle.interp_core.proofs.FrameLaws.{short_code, no_code_behind}
 use Rattle.interp_core.proofs.frames.pc_behind.Goals as goal
 

@@ -1,9 +1,9 @@
 -- The slots that are left decide.
-use Rattle.std.proofs.Common.{◌≡◌, ◌+◌, ◌∙◌, ◌∷◌, Option, sym, ap, subst, Some, length, drop, true, false, arith}
+use Rattle.std.proofs.Common.{◌≡◌, ◌+◌, ◌∙◌, Option, sym, ap, length, drop, arith}
 use Rattle.std.specs.Prelude.{not, nat_lt}
 use Rattle.jx_base.specs.Stacks.{StackState}
 use Rattle.jx_base.specs.declared.value.Value.{Value}
-use Rattle.machine_model.specs.NumericRows.{Stack, depth_of}
+use Rattle.machine_model.specs.NumericRows.{depth_of}
 use Rattle.machine_model.specs.ObjectRows.{with_result}
 use Rattle.machine_model.specs.State.{stack_limit}
 use Rattle.interp_num.proofs.Depths.{some_slot, length_within}

@@ -1,11 +1,9 @@
-use Rattle.std.proofs.Common.{◌≡◌, ◌-◌, ◌∙◌, ◌∷◌, ◌++◌, List, [], sym, ap, subst, drop, take, reverse, true, false}
-use Rattle.std.specs.Prelude.{not, nat_lt}
+use Rattle.std.proofs.Common.{◌≡◌, ◌-◌, ◌∙◌, ◌++◌, List, [], sym, ap, drop, take, reverse}
 use Rattle.jx_base.specs.declared.frame.Frame.{Frame}
-use Rattle.machine_model.specs.NumericRows.{Stack, depth_of}
+use Rattle.machine_model.specs.NumericRows.{Stack}
 use Rattle.machine_model.specs.ObjectRows.{leaves, with_result, Next}
-use Rattle.machine_model.specs.State.{frame_behind, stack_limit}
 use Rattle.interp_core.specs.Cores.{core_state, running_stack}
-use Rattle.interp_core.proofs.Leavings.{leaves_none, leaves_next, leaves_bad, last_first, running_is, head_frame}
+use Rattle.interp_core.proofs.Leavings.{leaves_none, leaves_next, leaves_bad, last_first, running_is}
 use Rattle.interp_core.proofs.leaving.leave.Goals as goal
 
 pub returns-in_default : goal.returns-in_default

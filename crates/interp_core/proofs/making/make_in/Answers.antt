@@ -1,6 +1,6 @@
 -- The newest object, with its cells filled so far.
-use Rattle.std.proofs.Common.{◌≡◌, ◌<◌, ◌∙◌, ◌++◌, ◌∷◌, [], set, sym, ap, length, arith}
-use Rattle.domain_heap.specs.Heaps.{HeapState, has_room, with_cell}
+use Rattle.std.proofs.Common.{◌≡◌, ◌<◌, ◌∙◌, ◌++◌, ◌∷◌, [], ap, length, arith}
+use Rattle.domain_heap.specs.Heaps.{HeapState, with_cell}
 use Rattle.program_model.specs.Parcels.{cells_at}
 use Rattle.interp_core.specs.Making.{contents_cells}
 use Rattle.interp_core.proofs.Filling.{cells_last, with_cell_last, filled, length_filled, fill_more, some_place}

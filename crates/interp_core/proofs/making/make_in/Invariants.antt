@@ -1,4 +1,4 @@
-use Rattle.std.proofs.Common.{◌≡◌, ◌+◌, ◌-◌, ◌++◌, ◌∷◌, [], take, length, replicate}
+use Rattle.std.proofs.Common.{◌≡◌, ◌+◌, ◌-◌, ◌++◌, ◌∷◌, [], length}
 use Rattle.interp_core.specs.Making.{contents_cells}
 use Rattle.interp_core.proofs.Filling.{filled}
 use Rattle.interp_core.proofs.making.make_in.Given as goal

@@ -1,8 +1,7 @@
-use Rattle.std.proofs.Common.{◌≡◌, ◌∙◌, sym, ap, length, arith}
+use Rattle.std.proofs.Common.{◌∙◌, sym, ap, length, arith}
 use Rattle.domain_heap.specs.Heaps.{HeapState}
 use Rattle.interp_core.specs.Cores.{store_of}
 use Rattle.interp_core.proofs.Filling.{cells_same, with_cell_is, with_no_cell}
-use Rattle.machine_model.specs.State.{Store}
 use Rattle.interp_core.proofs.objects.put_cell.Goals as goal
 
 pub put-requires : goal.put-requires

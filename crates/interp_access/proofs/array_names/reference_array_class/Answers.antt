@@ -1,0 +1,5 @@
+use Rattle.interp_access.proofs.ArrayNames.{named_small}
+use Rattle.interp_access.proofs.array_names.reference_array_class.Goals as goal
+
+pub class_at_place-requires : goal.class_at_place-requires
+class_at_place-requires c = named_small c.args.system.now _ c.reference_array_place.result c.reference_array_place.ensures c.requires
