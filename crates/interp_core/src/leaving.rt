@@ -14,8 +14,8 @@ use crate::step::ObjStep;
 use interp_num::{slots_left, slots_of};
 use jx_base::{Frame, OperandStack, System, Value};
 
-// Takes so many values off.
-fn take(stack: &mut OperandStack, taken: usize)
+/// Takes so many values off. Takes no memory.
+pub fn take(stack: &mut OperandStack, taken: usize)
     ensures { stack.new ≡ record stack.old { values = drop taken stack.old.values } }
 {
     for _ in 0..taken {

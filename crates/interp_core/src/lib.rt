@@ -15,7 +15,7 @@ pub use behind::place_behind;
 pub use cores::Core;
 pub use frames::{class_of_frame, code_of, constant_at, pc_behind, peek, running};
 pub use kept::{default_of, kept_value};
-pub use leaving::leave;
+pub use leaving::{leave, take};
 pub use making::{Contents, make_array, make_object};
 pub use objects::{cells_of, class_of_object, put_cell, shape_of};
 pub use step::ObjStep;

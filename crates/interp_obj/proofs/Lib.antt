@@ -1,0 +1,9 @@
+pub mod Invocations
+pub mod Entries
+pub mod Fitting
+pub mod Held
+pub mod Mine
+pub mod Places
+pub mod Returned
+pub mod Stepping
+pub mod Limits

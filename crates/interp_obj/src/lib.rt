@@ -1,0 +1,17 @@
+//! Instructions on objects, and calls.
+#![tactic(auto)]
+
+mod arguments;
+mod calls;
+mod entering;
+mod laws;
+mod lookup;
+mod portals;
+mod returns;
+mod running;
+mod selection;
+mod step;
+
+pub use interp_core::{Core, ObjStep};
+pub use laws::each_row_is_one_steps;
+pub use step::step_obj;
