@@ -1,0 +1,3 @@
+pub mod Splices
+pub mod LowBytes
+pub mod OneExtent
