@@ -1,0 +1,11 @@
+pub mod CallPlaces
+pub mod CallQueues
+pub mod Chains
+pub mod ChangedQueues
+pub mod EndedCalls
+pub mod FirstCalls
+pub mod Lists
+pub mod Members
+pub mod OneQueue
+pub mod OpenedQueues
+pub mod Waiting
