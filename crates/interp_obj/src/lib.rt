@@ -12,6 +12,7 @@ mod running;
 mod selection;
 mod step;
 
+pub use entering::{frame_of, is_overflow};
 pub use interp_core::{Core, ObjStep};
 pub use laws::each_row_is_one_steps;
 pub use step::step_obj;

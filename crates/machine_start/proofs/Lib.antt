@@ -1,0 +1,6 @@
+mod Chains
+mod Members
+mod Placed
+mod Started
+mod Defaults
+mod FirstHeap
