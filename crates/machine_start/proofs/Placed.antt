@@ -1,11 +1,10 @@
 -- The classes that are started are classes of the system.
-use Rattle.std.proofs.Common.{◌≡◌, ◌<◌, ◌+◌, ◌∙◌, refl, sym, ap, subst, ℕ, zero, suc, Bool, true, false, cond, List, [], ◌∷◌, ◌++◌, slice_get, get_or, length, Option, Some, None, if◌then◌else◌}
+use Rattle.std.proofs.Common.{◌≡◌, ◌<◌, ◌+◌, refl, sym, subst, ℕ, zero, suc, Bool, true, false, cond, List, [], ◌∷◌, slice_get, get_or, length, Option, Some, None, if◌then◌else◌}
 use Rattle.std.specs.Prelude.{filter, flat_map, reverse, ◌==◌}
 use Rattle.std.specs.List.{AllByRecursion, list_any}
 use Rattle.std.proofs.lemmas.Option.{slice_get_read, slice_get_within}
 use Rattle.std.proofs.lemmas.List.{get_or_default}
-use Rattle.jx_base.specs.Basics.{distinct, distinct_after, firsts}
-use Rattle.jx_base.specs.declared.ids.ClassId.{ClassId}
+use Rattle.jx_base.specs.Basics.{distinct, distinct_after}
 use Rattle.jx_base.specs.declared.program.Class.{Class}
 use Rattle.jx_base.specs.declared.program.System.{System}
 use Rattle.machine_laws.proofs.Lists.{all_append, all_get, all_reverse}

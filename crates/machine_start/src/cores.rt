@@ -44,6 +44,7 @@ fn first_heap(alloc: Global, cells: u32, array: ClassId) -> Result<Heap, OutOfMe
     ensures left { IfOk result (λ heap. heap.left ≡ cells - 5) }
 {
     let mut heap = Heap::open(alloc, cells)?;
+    // There is room for both: they take five cells.
     heap.make(OUT_OF_MEMORY_ERROR, 1);
     heap.make(array, 0);
     Ok(heap)

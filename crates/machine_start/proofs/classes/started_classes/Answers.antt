@@ -1,4 +1,4 @@
-use Rattle.std.proofs.Common.{sym, ap, ◌∙◌, ◌++◌, ◌+◌, get_or, take}
+use Rattle.std.proofs.Common.{ap, ◌∙◌, ◌++◌, take}
 use Rattle.std.specs.Prelude.{flat_map}
 use Rattle.jx_base.specs.Basics.{distinct, distinct_after, firsts}
 use Rattle.machine_model.specs.Start.{started_classes}

@@ -1,8 +1,4 @@
-use Rattle.std.proofs.Common.{◌≡◌, ◌∙◌, sym, ap, ℕ, Bool, true, false, refl, Option, Some, None, option_map, nat_eq}
-use Rattle.jx_base.specs.Basics.{passes}
-use Rattle.jx_base.specs.declared.program.Method.{Method}
-use Rattle.machine_start.specs.Found.{is_declared_at}
-use Rattle.program_model.specs.Lookup.{method_at}
+use Rattle.std.proofs.Common.{◌∙◌, sym}
 use Rattle.machine_start.proofs.Members.{declared_some, declared_none}
 use Rattle.machine_start.proofs.groups.is_declared_at.Goals as goal
 

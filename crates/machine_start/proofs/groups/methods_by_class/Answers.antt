@@ -1,4 +1,4 @@
-use Rattle.std.proofs.Common.{◌≡◌, ◌∙◌, sym, ap, map, length, get_or, slice_get, arith}
+use Rattle.std.proofs.Common.{◌∙◌, sym, ap, map, length, get_or, slice_get, arith}
 use Rattle.std.proofs.lemmas.List.{get_or_default}
 use Rattle.program_model.specs.Lookup.{class_count}
 use Rattle.machine_start.proofs.Members.{empty_group, grouped_more, grouped_same}

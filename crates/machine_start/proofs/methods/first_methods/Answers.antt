@@ -1,4 +1,4 @@
-use Rattle.std.proofs.Common.{◌∙◌, ◌++◌, ◌+◌, sym, ap}
+use Rattle.std.proofs.Common.{◌∙◌, ◌++◌, ◌+◌, ap}
 use Rattle.std.specs.Prelude.{filter}
 use Rattle.machine_model.specs.Start.{initializers, mains}
 use Rattle.program_model.specs.BuiltIn.{built_in_count}

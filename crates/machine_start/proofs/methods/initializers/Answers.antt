@@ -1,12 +1,9 @@
-use Rattle.std.proofs.Common.{◌≡◌, ◌<◌, ◌∙◌, ◌++◌, refl, sym, ap, map, length, take, get_or, slice_get, option_map, Some, List, ℕ, arith}
+use Rattle.std.proofs.Common.{◌≡◌, ◌∙◌, refl, sym, ap, map, length, get_or, slice_get, option_map, Some, List, ℕ, arith}
 use Rattle.std.specs.Prelude.{filter, flat_map}
-use Rattle.std.specs.List.{AllByRecursion}
 use Rattle.std.proofs.lemmas.List.{length-map, take_all}
 use Rattle.std.proofs.lemmas.Option.{slice_get-map, slice_get_read, slice_get_within}
-use Rattle.machine_laws.proofs.Lists.{all_get}
 use Rattle.machine_model.specs.MachineThreads.{is_initializer_selector}
 use Rattle.machine_model.specs.Start.{initializers, started_classes, static_methods}
-use Rattle.program_model.specs.Lookup.{class_count}
 use Rattle.machine_start.specs.Found.{is_declared_at}
 use Rattle.machine_start.proofs.Placed.{started_at}
 use Rattle.machine_start.proofs.Started.{initializers_of, more_of_class}
