@@ -1,0 +1,11 @@
+//! Tests of the tables of the nucleus.
+#![tactic(auto)]
+
+#[cfg(test)]
+mod call_desk;
+#[cfg(test)]
+mod calls;
+#[cfg(test)]
+mod domain_desk;
+#[cfg(test)]
+mod domains;
