@@ -17,12 +17,12 @@ enum Step {
     End(u32),
 }
 
-// How many calls there may be, the steps, and what comes of each: the number of a call or of a service,
-// or - where it can't be done. Then the states of all calls, each a letter.
+// How many calls there may be, the steps, and what comes of each: the number of a call or of a
+// service, or - where it can't be done. Then the states of all calls, each a letter.
 type Case = (u32, &'static [Step], &'static str);
 
 static CASES: [Case; 3] = [
-    // The middle one of a queue is answered, and a service ends with a call queued and one that runs.
+    // The middle one of a queue is answered. A service ends with a call queued and one that runs.
     (
         5,
         &[

@@ -3,9 +3,7 @@ ghost use Rattle.std.specs.Prelude.{◌≡◌, true};
 ghost use Rattle.domain_table.specs.DomainLists.{HasThread, IsLive};
 
 use domain_table::Domains;
-use jx_base::{
-    CallId, DomainId, DomainState, OutOfMemory, Reason, ServiceId, System, ThreadId, ThreadState,
-};
+use jx_base::{CallId, DomainId, OutOfMemory, Reason, ServiceId, System, ThreadId, ThreadState};
 use std::alloc::Global;
 
 /// The domains, with the number of the services that have threads.
@@ -50,8 +48,20 @@ impl Desk {
         Some(self.domains.add(template, DomainId(creator), at)?.0)
     }
 
-    pub fn state(&self, domain: u32) -> Option<DomainState> {
-        self.domains.state(DomainId(domain))
+    /// The template of a domain, its creator and its first granule.
+    pub fn made_with(&self, domain: u32) -> Option<(u32, u32, u32)> {
+        let state = self.domains.state(DomainId(domain))?;
+        Some((state.template, state.creator.0, state.at))
+    }
+
+    pub fn was_killed(&self, domain: u32) -> bool {
+        match self.domains.state(DomainId(domain)) {
+            Some(state) => match state.ended {
+                Some(Reason::Killed) => true,
+                _ => false,
+            },
+            None => false,
+        }
     }
 
     /// Ends the domain, where it lives.
@@ -93,8 +103,8 @@ impl Desk {
         self.domains.thread(DomainId(domain), ThreadId(thread))
     }
 
-    pub fn service(&self, domain: u32, thread: u32) -> Option<ServiceId> {
-        self.domains.service(DomainId(domain), ThreadId(thread))
+    pub fn service(&self, domain: u32, thread: u32) -> Option<u32> {
+        Some(self.domains.service(DomainId(domain), ThreadId(thread))?.0)
     }
 
     pub fn serves(&self, domain: u32, thread: u32) -> Option<CallId> {

@@ -34,8 +34,8 @@ fn empty_system(alloc: Global) -> System {
     }
 }
 
-// What comes of the steps: + where one is done, - where it can't be, the number of a thread. Behind a
-// thread in another state stands the call that it serves.
+// What comes of the steps: + where one is done, - where it can't be, the number of a thread. Behind
+// a thread in another state stands the call that it serves.
 static STEPS: [(Step, &'static str); 29] = [
     (Running(1), "0"),
     (Serve(1, 7, 2), "+"),
@@ -118,9 +118,17 @@ fn domains_have_threads_that_serve(rt: HostRuntime) -> Result<(), Fail> {
     // A domain ends once, and keeps what its threads did.
     assert!(rt; !desk.end(1, Reason::Fuel));
     assert!(rt; !desk.serve(1, 9, 1));
+    assert_eq!(rt; desk.made_with(1), Some((3, 0, 1)));
+    assert!(rt; desk.was_killed(1));
     assert!(rt; desk.thread(1, 10).is_some());
     assert!(rt; desk.thread(1, 11).is_none());
-    assert!(rt; desk.state(64).is_some());
-    assert!(rt; desk.state(65).is_none());
+    assert_eq!(rt; desk.service(1, 0), None);
+    assert_eq!(rt; desk.service(1, 2), Some(7));
+    assert_eq!(rt; desk.service(1, 3), Some(8));
+    // The others stay as they were made.
+    assert_eq!(rt; desk.made_with(64), Some((3, 0, 64)));
+    assert!(rt; !desk.was_killed(64));
+    assert_eq!(rt; desk.made_with(0), None);
+    assert_eq!(rt; desk.made_with(65), None);
     Ok(())
 }

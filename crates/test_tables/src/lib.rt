@@ -9,3 +9,7 @@ mod calls;
 mod domain_desk;
 #[cfg(test)]
 mod domains;
+#[cfg(test)]
+mod journals;
+#[cfg(test)]
+mod prints;

@@ -1,0 +1,3 @@
+mod ObjectFrames
+mod Finding
+mod Steppings
