@@ -38,9 +38,9 @@ get_set [] i y l = absurd (omega (arith, l))
 get_set (x ∷ xs) zero y l = refl
 get_set (x ∷ xs) (suc i) y l = get_set xs i y (omega (arith, l))
 
-emptied_of : (f left : Frame) → left.method ≡ f.method → left.pc ≡ f.pc → left.stack.room ≡ f.stack.room → left.locals ≡ f.locals → left.stack.values ≡ [] → left ≡ with_values [] f
+emptied : (f left : Frame) → left.method ≡ f.method → left.pc ≡ f.pc → left.stack.room ≡ f.stack.room → left.locals ≡ f.locals → left.stack.values ≡ [] → left ≡ with_values [] f
 unfolding with_values
-emptied_of f left a b c d e = rw (a, b, c, d, e) refl
+emptied f left a b c d e = rw (a, b, c, d, e) refl
 
 module _ (s : System) (st : State) (t : ℕ) (x : Thread) where
   -- where no frame catches the object
@@ -140,10 +140,6 @@ module _ (s : System) (st : State) (t : ℕ) (x : Thread) where
   no_stack : (c r : ℕ) (f : Frame) (callers : List Frame) → frames_at_handler s c r (with_values [] f ∷ callers) ≡ frames_at_handler s c r (f ∷ callers)
   unfolding frames_at_handler handler_in is_handler_for class_of_frame with_values
   no_stack c r f callers = refl
-
-  emptied : (f left : Frame) → left.method ≡ f.method → left.pc ≡ f.pc → left.stack.room ≡ f.stack.room → left.locals ≡ f.locals → left.stack.values ≡ [] → left ≡ with_values [] f
-  unfolding with_values
-  emptied f left a b c d e = rw (a, b, c, d, e) refl
 
   moved : (f left : Frame) (next : ℕ) → left.method ≡ f.method → left.pc ≡ next → left.stack.room ≡ f.stack.room → left ≡ record (with_values left.stack.values f) { pc = next; locals = left.locals }
   unfolding with_values
@@ -305,7 +301,7 @@ module _ (s : System) (i : Instr) (old mid : Core) (a : IsAt s old i) where
 
   pub raise_out : (c : ClassId) (new : Core) (answer : Stepped) → HasRun s i old mid (num.Raise c) → Raises s mid c.0 new answer → SteppedAs s old new answer
   raise_out c new answer run raises st t x h =
-      let left = emptied s st t x run.frame run.left run.method run.place run.room run.row.1.0 run.row.1.1 in
+      let left = emptied run.frame run.left run.method run.place run.room run.row.1.0 run.row.1.1 in
       let step = framed_is s st t x run.frame run.callers a.reading h.fuel (h.frames ∙ run.was) (read_at run.frame run.callers run.was)
       ∙ numbers_row s st t x run.frame run.callers a.reading (numeric.Raise c.0) (λ e. cc) (row_at_instr run.frame _ run.row.0)
       ∙ after_raised st t x run.frame run.callers a.reading.next c.0 in
@@ -335,7 +331,7 @@ module _ (s : System) (i : Instr) (old mid : Core) (a : IsAt s old i) where
   -- where a class is raised the frames are still those of their methods
   pub raised_frames : (c : ClassId) → HasRun s i old mid (num.Raise c) → All (IsFrameOf s) old.frames → All (IsFrameOf s) mid.frames
   raised_frames c run h =
-      let left : run.left ≡ with_values [] run.frame = emptied_of run.frame run.left run.method run.place run.room run.row.1.0 run.row.1.1 in
+      let left : run.left ≡ with_values [] run.frame = emptied run.frame run.left run.method run.place run.room run.row.1.0 run.row.1.1 in
       let first = subst (IsFrameOf s) (sym left) (less_deep run.frame (head_frame s old.frames run.callers run.frame run.was h)) in
       subst (All (IsFrameOf s)) (sym run.frames) (All-cons (IsFrameOf s) run.left run.callers first (All-rest (IsFrameOf s) run.frame run.callers old.frames run.was h))
 
