@@ -55,34 +55,34 @@ use Rattle.program_model.specs.Parcels.{HeapObject}
 -- ---- lists
 
 -- what holds of each item by recursion, at each place
-each_of : {X : Type 0} (P Q : X → Type 0) → ((x : X) → P x → Q x) → (xs : List X) → AllByRecursion P xs → All Q xs
+pub each_of : {X : Type 0} (P Q : X → Type 0) → ((x : X) → P x → Q x) → (xs : List X) → AllByRecursion P xs → All Q xs
 each_of P Q f xs h = All-from_recursion Q xs (all_weaken P Q f xs h)
 
-all_flat : {X Y : Type 0} (P : X → Type 0) (Q : Y → Type 0) (f : X → List Y) → ((x : X) → P x → AllByRecursion Q (f x)) → (xs : List X) → AllByRecursion P xs → AllByRecursion Q (flat_map f xs)
+pub all_flat : {X Y : Type 0} (P : X → Type 0) (Q : Y → Type 0) (f : X → List Y) → ((x : X) → P x → AllByRecursion Q (f x)) → (xs : List X) → AllByRecursion P xs → AllByRecursion Q (flat_map f xs)
 all_flat P Q f g [] h = tt
 all_flat P Q f g (x ∷ xs) h = all_append Q (f x) (flat_map f xs) (g x h.0) (all_flat P Q f g xs h.1)
 
 -- ---- instructions that are read
 
 -- what its operands stand behind is at the pc
-operands_pc : (pc opcode : ℕ) (wide : Bool) (o : Result (List ℤ × List ℕ) CodeFault) (y : Instr × List ℕ) →
+pub operands_pc : (pc opcode : ℕ) (wide : Bool) (o : Result (List ℤ × List ℕ) CodeFault) (y : Instr × List ℕ) →
     onward o (λ xs rest. Ok (record { pc = pc; opcode = opcode; wide = wide; operands = xs }, rest)) ≡ Ok y → y.0.pc ≡ pc
 operands_pc pc opcode wide (Ok x) y e =
     let q : (record { pc = pc; opcode = opcode; wide = wide; operands = x.0 }, x.1) ≡ y = cc in ap (λ (y : Instr × List ℕ). y.0.pc) (sym q)
 operands_pc pc opcode wide (Err f) y e = cc
 
-wide_pc : (pc : ℕ) (o : Result (ℕ × List ℕ) CodeFault) (y : Instr × List ℕ) →
+pub wide_pc : (pc : ℕ) (o : Result (ℕ × List ℕ) CodeFault) (y : Instr × List ℕ) →
     onward o (λ opcode rest. onward ((operands_part kind.BadWide pc (wide_form_at opcode)).reads rest) (λ xs more. Ok (record { pc = pc; opcode = opcode; wide = true; operands = xs }, more))) ≡ Ok y → y.0.pc ≡ pc
 wide_pc pc (Ok x) y e = operands_pc pc x.0 true ((operands_part kind.BadWide pc (wide_form_at x.0)).reads x.1) y e
 wide_pc pc (Err f) y e = cc
 
-behind_pc : (pc opcode : ℕ) (f : Form) (text : List ℕ) (y : Instr × List ℕ) → (behind_opcode pc opcode f).reads text ≡ Ok y → y.0.pc ≡ pc
+pub behind_pc : (pc opcode : ℕ) (f : Form) (text : List ℕ) (y : Instr × List ℕ) → (behind_opcode pc opcode f).reads text ≡ Ok y → y.0.pc ≡ pc
 unfolding behind_opcode wide_part
 behind_pc pc opcode form.Wide text y e = wide_pc pc ((number (past_end pc) w8).reads text) y e
 behind_pc pc opcode f text y e = operands_pc pc opcode false ((operands_part kind.Opcode pc f).reads text) y e
 
 -- an instruction has the pc at which it is read
-read_pc : (code : List ℕ) (pc : ℕ) (r : Reading) → instruction_at code pc ≡ Some r → r.instr.pc ≡ pc
+pub read_pc : (code : List ℕ) (pc : ℕ) (r : Reading) → instruction_at code pc ≡ Some r → r.instr.pc ≡ pc
 unfolding instruction_at instruction_part reading_of
 read_pc code pc r e = by ((number (past_end pc) w8).reads (drop pc code)) e
   where
@@ -97,13 +97,13 @@ read_pc code pc r e = by ((number (past_end pc) w8).reads (drop pc code)) e
 -- ---- interfaces
 
 -- an export that made a service is of a class
-exported_class : (s : System) (past : Past) (a : Act) (r : Reply) (c : ClassId) → IsWellMade s past a → exported_interface a r ≡ Some c → IsClass s c.0
+pub exported_class : (s : System) (past : Past) (a : Act) (r : Reply) (c : ClassId) → IsWellMade s past a → exported_interface a r ≡ Some c → IsClass s c.0
 unfolding exported_interface
 exported_class s past (act.Export iface k) (reply.Service service i) c h e = let q : iface ≡ c = cc in subst (λ (c : ClassId). IsClass s c.0) q h.0
 exported_class s past _ _ c h e = cc
 
 -- the interface of a service is a class
-interface_class : (s : System) (past : Past) (k : ℕ) (c : ClassId) → IsAdmittedPast s past → interface_of past k ≡ Some c → IsClass s c.0
+pub interface_class : (s : System) (past : Past) (k : ℕ) (c : ClassId) → IsAdmittedPast s past → interface_of past k ≡ Some c → IsClass s c.0
 unfolding interface_of export_of
 interface_class s past k c h e =
     let x = then_some (nth_entry is_export past k) (λ e. exported_interface e.act e.reply) c e in
@@ -111,7 +111,7 @@ interface_class s past k c h e =
     exported_class s m.0.before x.0.act x.0.reply c (moment s past x.0 m.0.before h m.0.is).well_made x.2
 
 -- a class has a number below their count
-class_below : (s : System) (c : ℕ) → IsClass s c → c < class_count s
+pub class_below : (s : System) (c : ℕ) → IsClass s c → c < class_count s
 unfolding class_at class_count
 class_below s c h = by (slice_get s.program.classes c) refl h
   where
@@ -120,7 +120,7 @@ class_below s c h = by (slice_get s.program.classes c) refl h
     by (Some k) e h = slice_get_within s.program.classes c k e
 
 -- an object has a number below theirs
-object_below : (store : Store) (r : ℕ) → IsObject store r → r < length store.objects
+pub object_below : (store : Store) (r : ℕ) → IsObject store r → r < length store.objects
 unfolding class_of_object
 object_below store r h = by (slice_get store.objects r) refl h
   where
@@ -128,7 +128,7 @@ object_below store r h = by (slice_get store.objects r) refl h
     by None e h = cc
     by (Some x) e h = slice_get_within store.objects r x e
 
-unit_of_value : (v : Value) → IsUnitValue v → IsUnit v
+pub unit_of_value : (v : Value) → IsUnitValue v → IsUnit v
 unit_of_value (value.Int (pos n)) h = h
 unit_of_value (value.Int (negsuc n)) h = absurd h
 unit_of_value (value.Long n) h = absurd h
@@ -139,26 +139,26 @@ unit_of_value (value.Mem m) h = absurd h
 
 module _ (s : System) (past : Past) (z : IsSound s) (h : IsAdmittedPast s past) (st : State) (k : IsStateIn s past st) where
   -- a value of the state
-  abbrev V : Value → Type 0
+  abbrev pub V : Value → Type 0
   V v = IsValueIn past st.store v
 
-  some_values : (locals : List (Option Value)) → AllByRecursion (IsValueInSome past st.store) locals → AllByRecursion V (filter_map (λ v. v) locals)
+  pub some_values : (locals : List (Option Value)) → AllByRecursion (IsValueInSome past st.store) locals → AllByRecursion V (filter_map (λ v. v) locals)
   some_values [] i = tt
   some_values (None ∷ locals) i = some_values locals i.1
   some_values (Some v ∷ locals) i = (i.0, some_values locals i.1)
 
-  frame_in : (f : Frame) → IsFrameIn s past st.store f → AllByRecursion V (frame_values f)
+  pub frame_in : (f : Frame) → IsFrameIn s past st.store f → AllByRecursion V (frame_values f)
   unfolding frame_values
   frame_in f i = all_append V (filter_map (λ v. v) f.locals) f.stack.values (some_values f.locals i.locals) i.stack
 
-  values_in : (x : Thread) → AllByRecursion (IsFrameIn s past st.store) x.frames → AllByRecursion V (core_values (core_of st x))
+  pub values_in : (x : Thread) → AllByRecursion (IsFrameIn s past st.store) x.frames → AllByRecursion V (core_values (core_of st x))
   unfolding core_values store_values core_of
   values_in x i = all_append V (flat_map frame_values x.frames) (flat_map (λ o. o.cells) st.store.objects ++ st.store.statics)
       (all_flat (IsFrameIn s past st.store) V frame_values frame_in x.frames i)
       (all_append V (flat_map (λ o. o.cells) st.store.objects) st.store.statics
       (all_flat (IsObjectIn s past st.store) V (λ o. o.cells) (λ o j. j.cells) st.store.objects k.store.objects) k.store.statics)
 
-  held : (v : Value) → V v → IsHeldBy st.store v
+  pub held : (v : Value) → V v → IsHeldBy st.store v
   held (value.Ref r) i = object_below st.store r i
   held (value.Int n) i = tt
   held (value.Long n) i = tt
@@ -166,7 +166,7 @@ module _ (s : System) (past : Past) (z : IsSound s) (h : IsAdmittedPast s past) 
   held (value.Portal n c) i = tt
   held (value.Mem m) i = tt
 
-  known : (v : Value) → V v → HasKnownInterface s v
+  pub known : (v : Value) → V v → HasKnownInterface s v
   known (value.Portal n c) i = class_below s c.0 (interface_class s past n.0 c h i.1)
   known (value.Int n) i = tt
   known (value.Long n) i = tt
@@ -174,11 +174,11 @@ module _ (s : System) (past : Past) (z : IsSound s) (h : IsAdmittedPast s past) 
   known (value.Ref r) i = tt
   known (value.Mem m) i = tt
 
-  frames_of : (fs : List Frame) → AllByRecursion (IsFrameIn s past st.store) fs → AllByRecursion (IsWithin s) fs → All (IsFrameOf s) fs
+  pub frames_of : (fs : List Frame) → AllByRecursion (IsFrameIn s past st.store) fs → AllByRecursion (IsWithin s) fs → All (IsFrameOf s) fs
   frames_of [] i w = All-nil (IsFrameOf s)
   frames_of (f ∷ fs) i w = All-cons (IsFrameOf s) f fs (record { method = i.0.method; locals = i.0.count; depth = w.0; room = i.0.room }) (frames_of fs i.1 w.1)
 
-  core_in : (x : Thread) → AllByRecursion (IsFrameIn s past st.store) x.frames → AllByRecursion (IsWithin s) x.frames → IsCoreOf s (core_of st x)
+  pub core_in : (x : Thread) → AllByRecursion (IsFrameIn s past st.store) x.frames → AllByRecursion (IsWithin s) x.frames → IsCoreOf s (core_of st x)
   unfolding core_of
   core_in x i w = record {
     frames = frames_of x.frames i w;
@@ -194,7 +194,7 @@ module _ (s : System) (past : Past) (z : IsSound s) (h : IsAdmittedPast s past) 
 
   -- ---- the instruction
 
-  listed : (f : Frame) (r : Reading) → IsFrameIn s past st.store f → instruction_at (code_bytes s f) f.pc ≡ Some r → IsSomeAnd (method_at s f.method) (λ m. Contains m.instrs r.instr)
+  pub listed : (f : Frame) (r : Reading) → IsFrameIn s past st.store f → instruction_at (code_bytes s f) f.pc ≡ Some r → IsSomeAnd (method_at s f.method) (λ m. Contains m.instrs r.instr)
   unfolding code_of
   listed f r i e = by (method_at s f.method) refl i.method
     where
@@ -203,12 +203,12 @@ module _ (s : System) (past : Past) (z : IsSound s) (h : IsAdmittedPast s past) 
       by (Some m) q c = i.place m r q e
 
   -- a static field has a place below their count
-  static_below : (x : Resolved) → IsResolvedIn s x → IfSome (static_of x) (λ i. i < length st.store.statics)
+  pub static_below : (x : Resolved) → IsResolvedIn s x → IfSome (static_of x) (λ i. i < length st.store.statics)
   unfolding static_of
   static_below (resolved.Static c i) j = subst (λ (n : ℕ). i < n) (sym k.store.count) j
   static_below _ j = tt
 
-  static_in : (f : Frame) (i : Instr) → IfSome (static_named s f i) (λ n. n < length st.store.statics)
+  pub static_in : (f : Frame) (i : Instr) → IfSome (static_named s f i) (λ n. n < length st.store.statics)
   unfolding static_named
   static_in f i = by (constant_at s (class_of_frame s f) (index_operand i 0)) refl
     where
@@ -216,7 +216,7 @@ module _ (s : System) (past : Past) (z : IsSound s) (h : IsAdmittedPast s past) 
       by None e = tt
       by (Some x) e = static_below x (z.constants (class_of_frame s f) (index_operand i 0) x e)
 
-  instruction_in : (x : Thread) (f : Frame) (callers : List Frame) (r : Reading) → AllByRecursion (IsFrameIn s past st.store) x.frames → x.frames ≡ f ∷ callers → instruction_at (code_bytes s f) f.pc ≡ Some r →
+  pub instruction_in : (x : Thread) (f : Frame) (callers : List Frame) (r : Reading) → AllByRecursion (IsFrameIn s past st.store) x.frames → x.frames ≡ f ∷ callers → instruction_at (code_bytes s f) f.pc ≡ Some r →
       IsInstrOf s (core_of st x) f callers r.instr
   unfolding core_of
   instruction_in x f callers r i e q = record {
@@ -231,7 +231,7 @@ module _ (s : System) (past : Past) (z : IsSound s) (h : IsAdmittedPast s past) 
 -- ---- the law
 
 -- the stacks of a domain's threads are within their limits
-stacks_within : (s : System) (t : ℕ) (own : Past) → HaveStacksWithin s (domain_state s t own)
+pub stacks_within : (s : System) (t : ℕ) (own : Past) → HaveStacksWithin s (domain_state s t own)
 unfolding domain_state no_state
 stacks_within s t [] = by (template_at s t)
   where

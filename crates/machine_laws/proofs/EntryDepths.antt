@@ -28,15 +28,15 @@ use Rattle.machine_laws.proofs.Lists.{all_append, all_get, all_replicate}
 use Rattle.machine_laws.proofs.StepDepths.{Fs, thread_within, store_within, fuel_within, frames_within, stage_within, throw_within, raise_within, begin_within}
 
 module _ (s : System) where
-  rest_within : (st : State) → HaveStacksWithin s st → HaveStacksWithin s (at_rest st)
+  pub rest_within : (st : State) → HaveStacksWithin s st → HaveStacksWithin s (at_rest st)
   unfolding at_rest
   rest_within st h = h
 
-  running_within : (st : State) (t : ℕ) → HaveStacksWithin s st → HaveStacksWithin s (with_running_thread st t)
+  pub running_within : (st : State) (t : ℕ) → HaveStacksWithin s st → HaveStacksWithin s (with_running_thread st t)
   unfolding with_running_thread
   running_within st t h = h
 
-  result_within : (st : State) (t : ℕ) (x : Thread) (v : Option Value) → HaveStacksWithin s st → Fs s (drop 1 x.frames) → HaveStacksWithin s (after_result s st t x v)
+  pub result_within : (st : State) (t : ℕ) (x : Thread) (v : Option Value) → HaveStacksWithin s st → Fs s (drop 1 x.frames) → HaveStacksWithin s (after_result s st t x v)
   unfolding after_result
   result_within st t x v h i = by x.frames refl
     where
@@ -44,7 +44,7 @@ module _ (s : System) where
       by [] e = rw e h
       by (f ∷ fs) e = rw e (frames_within s st t _ (frame_behind s (with_result v (drop (taken_at s f) f.stack.values)) f) fs h (subst (λ (xs : List Frame). Fs s (drop 1 xs)) e i))
 
-  split_within : (st : State) (t : ℕ) (x : Thread) (halves : List Value) → HaveStacksWithin s st → Fs s (drop 1 x.frames) → HaveStacksWithin s (after_split s st t x halves)
+  pub split_within : (st : State) (t : ℕ) (x : Thread) (halves : List Value) → HaveStacksWithin s st → Fs s (drop 1 x.frames) → HaveStacksWithin s (after_split s st t x halves)
   unfolding after_split
   split_within st t x halves h i = by (new_object st.store _ halves)
     where
@@ -52,7 +52,7 @@ module _ (s : System) where
       by None = throw_within s st t x 0 h i
       by (Some y) = result_within (with_store st y.0) t x (Some (value.Ref y.1)) (store_within s st y.0 h) i
 
-  reply_within : (st : State) (t : ℕ) (x : Thread) (r : Reply) → HaveStacksWithin s st → Fs s (drop 1 x.frames) → HaveStacksWithin s (after_reply s st t x r)
+  pub reply_within : (st : State) (t : ℕ) (x : Thread) (r : Reply) → HaveStacksWithin s st → Fs s (drop 1 x.frames) → HaveStacksWithin s (after_reply s st t x r)
   unfolding after_reply
   reply_within st t x (reply.Service service c) h i = result_within st t x (Some (value.Portal service c)) h i
   reply_within st t x reply.NoName h i = result_within st t x (Some value.Null) h i
@@ -64,7 +64,7 @@ module _ (s : System) where
   reply_within st t x (reply.Refused r) h i = raise_within s st t x (exception_of r) h i
   reply_within st t x _ h i = result_within st t x None h i
 
-  native_within : (st : State) (t : ℕ) (x : Thread) (o : BuiltInOutcome) → HaveStacksWithin s st → HaveStacksWithin s (after_built_in s st t x o)
+  pub native_within : (st : State) (t : ℕ) (x : Thread) (o : BuiltInOutcome) → HaveStacksWithin s st → HaveStacksWithin s (after_built_in s st t x o)
   unfolding after_built_in
   native_within st t x (Gives store v) h = stage_within s (with_store st store) t x (Returned v) (store_within s st store h)
   native_within st t x (Raises c) h = raise_within s st t (record x { frames = [] }) c h tt
@@ -72,7 +72,7 @@ module _ (s : System) where
   native_within st t x (Performs a) h = stage_within s st t x Bad h
   native_within st t x Unfit h = stage_within s st t x Bad h
 
-  selection_within : (st : State) (t : ℕ) (x : Thread) (m : ℕ) (args : List Value) → HaveStacksWithin s st → HaveStacksWithin s (after_selection s st t x m args)
+  pub selection_within : (st : State) (t : ℕ) (x : Thread) (m : ℕ) (args : List Value) → HaveStacksWithin s st → HaveStacksWithin s (after_selection s st t x m args)
   unfolding after_selection
   selection_within st t x m args h = by (method_at s m)
     where
@@ -88,7 +88,7 @@ module _ (s : System) where
       by None = stage_within s st t x Bad h
       by (Some k) = here k (is_abstract k.flags) (is_built_in k.class.0)
 
-  roots_within : (st : State) (t : ℕ) (x : Thread) (service : ServiceId) (method : MethodId) (roots : List Value) → HaveStacksWithin s st → HaveStacksWithin s (after_roots s st t x service method roots)
+  pub roots_within : (st : State) (t : ℕ) (x : Thread) (service : ServiceId) (method : MethodId) (roots : List Value) → HaveStacksWithin s st → HaveStacksWithin s (after_roots s st t x service method roots)
   unfolding after_roots
   roots_within st t x service method roots h = by (selected_at s st.store service method)
     where
@@ -96,7 +96,7 @@ module _ (s : System) where
       by None = stage_within s st t x Bad h
       by (Some y) = selection_within st t x y.0 (value.Ref y.1 ∷ roots) h
 
-  take_within : (st : State) (t : ℕ) (x : Thread) (service : ServiceId) (method : MethodId) (p : Parcel) → HaveStacksWithin s st → HaveStacksWithin s (after_take s st t x service method p)
+  pub take_within : (st : State) (t : ℕ) (x : Thread) (service : ServiceId) (method : MethodId) (p : Parcel) → HaveStacksWithin s st → HaveStacksWithin s (after_take s st t x service method p)
   unfolding after_take
   take_within st t x service method p h = by (with_nodes st.store p)
     where
@@ -112,7 +112,7 @@ module _ (s : System) where
       by None = stage_within s st t x (Threw 0) h
       by (Some store) = fitted store (all_fit s false store (root_values st.store p) (parameters_of s method))
 
-  value_within : (st : State) (t : ℕ) (x : Thread) (p : Parcel) → HaveStacksWithin s st → Fs s (drop 1 x.frames) → HaveStacksWithin s (after_value s st t x p)
+  pub value_within : (st : State) (t : ℕ) (x : Thread) (p : Parcel) → HaveStacksWithin s st → Fs s (drop 1 x.frames) → HaveStacksWithin s (after_value s st t x p)
   unfolding after_value
   value_within st t x p h i = by (with_nodes st.store p)
     where
@@ -127,7 +127,7 @@ module _ (s : System) where
       by None = throw_within s st t x 0 h i
       by (Some store) = fitted store (all_fit s false store (root_values st.store p) (expected_types s x))
 
-  thrown_within : (st : State) (t : ℕ) (x : Thread) (p : Parcel) → HaveStacksWithin s st → Fs s (drop 1 x.frames) → HaveStacksWithin s (after_thrown s st t x p)
+  pub thrown_within : (st : State) (t : ℕ) (x : Thread) (p : Parcel) → HaveStacksWithin s st → Fs s (drop 1 x.frames) → HaveStacksWithin s (after_thrown s st t x p)
   unfolding after_thrown
   thrown_within st t x p h i = by (with_nodes st.store p)
     where
@@ -142,22 +142,22 @@ module _ (s : System) where
       by None = throw_within s st t x 0 h i
       by (Some store) = found store (thrown_root s store (root_values st.store p))
 
-  resume_within : (st : State) (t : ℕ) (x : Thread) (r : Reply) → HaveStacksWithin s st → Fs s (drop 1 x.frames) → HaveStacksWithin s (after_resume s st t x r)
+  pub resume_within : (st : State) (t : ℕ) (x : Thread) (r : Reply) → HaveStacksWithin s st → Fs s (drop 1 x.frames) → HaveStacksWithin s (after_resume s st t x r)
   unfolding after_resume
   resume_within st t x (reply.Value p) h i = value_within st t x p h i
   resume_within st t x (reply.Thrown p) h i = thrown_within st t x p h i
   resume_within st t x reply.CopyFailed h i = raise_within s st t x copy_exception h i
   resume_within st t x _ h i = raise_within s st t x ended_exception h i
 
-  export_within : (st : State) (r : ℕ) (service : ServiceId) (iface : ClassId) (n : ℕ) → HaveStacksWithin s st → HaveStacksWithin s (with_export st r service iface n)
+  pub export_within : (st : State) (r : ℕ) (service : ServiceId) (iface : ClassId) (n : ℕ) → HaveStacksWithin s st → HaveStacksWithin s (with_export st r service iface n)
   unfolding with_export idle_thread
   export_within st r service iface n h = all_append (HasStacksWithin s) st.threads (replicate n idle_thread) h (all_replicate (HasStacksWithin s) n idle_thread (record { below = tt; going = λ e. tt }))
 
-  end_within : (st : State) (t : ℕ) (x : Thread) → HaveStacksWithin s st → HaveStacksWithin s (after_end st t x)
+  pub end_within : (st : State) (t : ℕ) (x : Thread) → HaveStacksWithin s st → HaveStacksWithin s (after_end st t x)
   unfolding after_end
   end_within st t x h = rest_within _ (thread_within s st t (record x { call = None; frames = []; stage = Going }) h (record { below = tt; going = λ e. tt }))
 
-  act_within : (st : State) (t : ℕ) (x : Thread) (a : Act) (r : Reply) → HaveStacksWithin s st → Fs s (drop 1 x.frames) → HaveStacksWithin s (after_act s st t x a r)
+  pub act_within : (st : State) (t : ℕ) (x : Thread) (a : Act) (r : Reply) → HaveStacksWithin s st → Fs s (drop 1 x.frames) → HaveStacksWithin s (after_act s st t x a r)
   unfolding after_act
   act_within st t x (act.Take c) (reply.Job service method p) h i =
       take_within (with_running_thread st t) t (record x { call = Some c; stage = Going }) service method p (running_within st t h)

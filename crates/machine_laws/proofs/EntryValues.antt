@@ -47,7 +47,7 @@ use Rattle.machine_laws.proofs.Stores.{IsLater, AreCellsOf, new_object_in, with_
 use Rattle.machine_laws.proofs.Unpacking.{IsUnpacked, unpacked_in}
 use Rattle.std.specs.Option.{option_and_then, option_map, unwrap_or}
 
-loosely : (b c : Bool) → (b || false) ≡ true → (b || c) ≡ true
+pub loosely : (b c : Bool) → (b || false) ≡ true → (b || c) ≡ true
 loosely true c h = refl
 loosely false c h = cc
 
@@ -61,7 +61,7 @@ loosen s Unknown t h = h
 loosen s (ObjectShape c) t h = loosely (object_fits s (ObjectShape c) t) _ h
 loosen s (PortalShape c) t h = loosely (object_fits s (PortalShape c) t) _ h
 
-all_loosen : (s : System) (store : Store) (vs : List Value) (ts : List (List ℕ)) → all_fit s false store vs ts ≡ true → all_fit s true store vs ts ≡ true
+pub all_loosen : (s : System) (store : Store) (vs : List Value) (ts : List (List ℕ)) → all_fit s false store vs ts ≡ true → all_fit s true store vs ts ≡ true
 unfolding all_fit
 all_loosen s store [] [] h = refl
 all_loosen s store [] (t ∷ ts) h = h
@@ -74,18 +74,18 @@ all_loosen s store (v ∷ vs) (t ∷ ts) h = by (shape_fits s false (shape_of st
     by false e h f g = cc
 
 module _ (s : System) (past : Past) (z : IsSound s) where
-  exception : (c : ℕ) → c < built_in_count → is_some (slice_get built_in_table c) ≡ true → IsClass s c
+  pub exception : (c : ℕ) → c < built_in_count → is_some (slice_get built_in_table c) ≡ true → IsClass s c
   exception c l e = built_in_class s c z l e
 
-  copy_class : IsClass s copy_exception
+  pub copy_class : IsClass s copy_exception
   unfolding opened_built_in
   copy_class = exception 21 (omega arith) refl
 
-  ended_class : IsClass s ended_exception
+  pub ended_class : IsClass s ended_exception
   unfolding opened_built_in
   ended_class = exception 22 (omega arith) refl
 
-  refusal_class : (r : Refusal) → IsClass s (exception_of r)
+  pub refusal_class : (r : Refusal) → IsClass s (exception_of r)
   unfolding exception_of opened_built_in
   refusal_class refusal.NotHeld = exception 24 (omega arith) refl
   refusal_class refusal.Revoked = exception 23 (omega arith) refl
@@ -94,14 +94,14 @@ module _ (s : System) (past : Past) (z : IsSound s) where
   refusal_class refusal.Gone = exception 22 (omega arith) refl
   refusal_class _ = exception 26 (omega arith) refl
 
-  with_result_in : (store : Store) (v : Option Value) (stack : List Value) → IsValueInSome past store v → AllByRecursion (IsValueIn past store) stack → AllByRecursion (IsValueIn past store) (with_result v stack)
+  pub with_result_in : (store : Store) (v : Option Value) (stack : List Value) → IsValueInSome past store v → AllByRecursion (IsValueIn past store) stack → AllByRecursion (IsValueIn past store) (with_result v stack)
   unfolding with_result
   with_result_in store None stack i k = k
   with_result_in store (Some v) stack i k = (i, k)
 
   -- ---- results
 
-  result_in : (st : State) (t : ℕ) (x : Thread) (v : Option Value) → IsStateIn s past st → Fs s past z st.store x.frames → IsValueInSome past st.store v → IsStateIn s past (after_result s st t x v)
+  pub result_in : (st : State) (t : ℕ) (x : Thread) (v : Option Value) → IsStateIn s past st → Fs s past z st.store x.frames → IsValueInSome past st.store v → IsStateIn s past (after_result s st t x v)
   unfolding after_result frame_behind with_values local_count stack_limit
   result_in st t x v h i k = by x.frames refl
     where
@@ -120,14 +120,14 @@ module _ (s : System) (past : Past) (z : IsSound s) where
       by None e = exception 0 (omega arith) refl
       by (Some c) e = named_class s name c e
 
-  memory_array : IsArrayClass s (unwrap_or (class_named s (codes "[Ljx/Memory;")) 0)
+  pub memory_array : IsArrayClass s (unwrap_or (class_named s (codes "[Ljx/Memory;")) 0)
   memory_array = by (class_named s (codes "[Ljx/Memory;")) refl z.memories
     where
       by : (o : Option ℕ) → class_named s (codes "[Ljx/Memory;") ≡ o → is_some o ≡ true → IsArrayClass s (unwrap_or o 0)
       by None e q = cc
       by (Some c) e q = array_class_of s (codes "Ljx/Memory;") c z e
 
-  split_in : (st : State) (t : ℕ) (x : Thread) (halves : List Value) → IsStateIn s past st → Fs s past z st.store x.frames → ((c : ℕ) → IsArrayClass s c → AreCellsOf s past st.store c halves) → IsStateIn s past (after_split s st t x halves)
+  pub split_in : (st : State) (t : ℕ) (x : Thread) (halves : List Value) → IsStateIn s past st → Fs s past z st.store x.frames → ((c : ℕ) → IsArrayClass s c → AreCellsOf s past st.store c halves) → IsStateIn s past (after_split s st t x halves)
   unfolding after_split with_store
   split_in st t x halves h i k = by (new_object st.store (unwrap_or (class_named s (codes "[Ljx/Memory;")) 0) halves) refl
     where
@@ -143,11 +143,11 @@ module _ (s : System) (past : Past) (z : IsSound s) where
           result_in (with_store st y.0) t x (Some (value.Ref y.1)) (set_store s past z st y.0 h l) (later_frames s past z st.store y.0 l x.frames i) (ap is_some m.object)
 
   -- two memory objects may stand in any object
-  memory_cells : (store : Store) (a b : ObjectId) (c : ℕ) → IsId a.0 → IsId b.0 → IsArrayClass s c → AreCellsOf s past store c (value.Mem a ∷ value.Mem b ∷ [])
+  pub memory_cells : (store : Store) (a b : ObjectId) (c : ℕ) → IsId a.0 → IsId b.0 → IsArrayClass s c → AreCellsOf s past store c (value.Mem a ∷ value.Mem b ∷ [])
   unfolding unit_of
   memory_cells store a b c i j n = record { count = n.any 2; values = (i, (j, tt)); units = λ e. absurd (n.other e); text = λ e. (tt, (tt, tt)) }
 
-  reply_in : (st : State) (t : ℕ) (x : Thread) (r : Reply) → IsStateIn s past st → Fs s past z st.store x.frames → IsReplyIn s past r → IsStateIn s past (after_reply s st t x r)
+  pub reply_in : (st : State) (t : ℕ) (x : Thread) (r : Reply) → IsStateIn s past st → Fs s past z st.store x.frames → IsReplyIn s past r → IsStateIn s past (after_reply s st t x r)
   unfolding after_reply
   reply_in st t x (reply.Service service c) h i k = result_in st t x (Some (value.Portal service c)) h i k
   reply_in st t x reply.NoName h i k = result_in st t x (Some value.Null) h i tt
@@ -161,7 +161,7 @@ module _ (s : System) (past : Past) (z : IsSound s) where
 
   -- ---- a call is taken
 
-  native_in : (st : State) (t : ℕ) (x : Thread) (o : BuiltInOutcome) → IsStateIn s past st → IsNativeIn s past st.store o → IsStateIn s past (after_built_in s st t x o)
+  pub native_in : (st : State) (t : ℕ) (x : Thread) (o : BuiltInOutcome) → IsStateIn s past st → IsNativeIn s past st.store o → IsStateIn s past (after_built_in s st t x o)
   unfolding after_built_in with_store
   native_in st t x (Gives store v) h k = set_stage s past z (with_store st store) t x (Returned v) (set_store s past z st store h k.0) k.1
   native_in st t x (Raises c) h k = raise_in s past z st t (record x { frames = [] }) c h tt k
@@ -170,20 +170,20 @@ module _ (s : System) (past : Past) (z : IsSound s) where
   native_in st t x Unfit h k = set_stage s past z st t x Bad h tt
 
   -- the object of a service
-  service_in : (store : Store) (k : ServiceId) (r : ℕ) → IsStoreIn s past store → service_object store k ≡ Some r → IsObject store r
+  pub service_in : (store : Store) (k : ServiceId) (r : ℕ) → IsStoreIn s past store → service_object store k ≡ Some r → IsObject store r
   unfolding service_object
   service_in store k r h e =
       let x = mapped_some (λ x. x.object) (find (λ x. x.service.0 == k.0) store.exports) r e in
       subst (IsObject store) x.2 (all_found (IsExportIn past store) (λ x. x.service.0 == k.0) store.exports x.0 x.1 h.exports).object
 
   -- the object, its class and the method that is selected
-  record IsSelected (store : Store) (selector m r : ℕ) : Type 0 where
-    object : IsObject store r
-    class : ℕ
-    of : class_of_object store r ≡ Some class
-    method : selected_method s class selector ≡ Some m
+  pub record IsSelected (store : Store) (selector m r : ℕ) : Type 0 where
+    pub object : IsObject store r
+    pub class : ℕ
+    pub of : class_of_object store r ≡ Some class
+    pub method : selected_method s class selector ≡ Some m
 
-  selected_in : (store : Store) (k : ServiceId) (method : MethodId) (y : ℕ × ℕ) → IsStoreIn s past store → selected_at s store k method ≡ Some y → IsSelected store method.0 y.0 y.1
+  pub selected_in : (store : Store) (k : ServiceId) (method : MethodId) (y : ℕ × ℕ) → IsStoreIn s past store → selected_at s store k method ≡ Some y → IsSelected store method.0 y.0 y.1
   unfolding selected_at
   selected_in store k method y h e =
       let a = then_some (service_object store k) (λ r. option_and_then (λ c. option_map (λ m. (m, r)) (selected_method s c method.0)) (class_of_object store r)) y e in
@@ -192,7 +192,7 @@ module _ (s : System) (past : Past) (z : IsSound s) where
       subst (λ (y : ℕ × ℕ). IsSelected store method.0 y.0 y.1) d.2 (record { object = service_in store k a.0 h a.1; class = b.0; of = b.1; method = d.1 })
 
   -- the roots fit the parameters of the selector
-  native_fits : (store : Store) (h : IsStoreIn s past store) (method : MethodId) (m r : ℕ) (roots : List Value) (k : Method) → IsSelected store method.0 m r → method_at s m ≡ Some k → all_fit s false store roots (parameters_of s method) ≡ true →
+  pub native_fits : (store : Store) (h : IsStoreIn s past store) (method : MethodId) (m r : ℕ) (roots : List Value) (k : Method) → IsSelected store method.0 m r → method_at s m ≡ Some k → all_fit s false store roots (parameters_of s method) ≡ true →
       NativeFits s past (bare s past z store) z tt h k (value.Ref r ∷ roots)
   unfolding parameters_of parameter_types
   native_fits store h method m r roots k w e f l i y q =
@@ -210,7 +210,7 @@ module _ (s : System) (past : Past) (z : IsSound s) where
             subst (λ (c : ℕ). is_below s c k.class.0 ≡ true) d t.0;
       })
 
-  selection_in : (st : State) (t : ℕ) (x : Thread) (m : ℕ) (args : List Value) → (h : IsStateIn s past st) → AllByRecursion (IsValueIn past st.store) args →
+  pub selection_in : (st : State) (t : ℕ) (x : Thread) (m : ℕ) (args : List Value) → (h : IsStateIn s past st) → AllByRecursion (IsValueIn past st.store) args →
       ((k : Method) → method_at s m ≡ Some k → NativeFits s past (bare s past z st.store) z tt h.store k args) → IsStateIn s past (after_selection s st t x m args)
   unfolding after_selection is_built_in
   selection_in st t x m args h i f = by (method_at s m) refl
@@ -228,7 +228,7 @@ module _ (s : System) (past : Past) (z : IsSound s) where
       by None e = set_stage s past z st t x Bad h tt
       by (Some k) e = here k e (is_abstract k.flags) (nat_lt k.class.0 built_in_count) refl
 
-  roots_in : (st : State) (t : ℕ) (x : Thread) (service : ServiceId) (method : MethodId) (roots : List Value) → IsStateIn s past st → AllByRecursion (IsValueIn past st.store) roots → all_fit s false st.store roots (parameters_of s method) ≡ true →
+  pub roots_in : (st : State) (t : ℕ) (x : Thread) (service : ServiceId) (method : MethodId) (roots : List Value) → IsStateIn s past st → AllByRecursion (IsValueIn past st.store) roots → all_fit s false st.store roots (parameters_of s method) ≡ true →
       IsStateIn s past (after_roots s st t x service method roots)
   unfolding after_roots
   roots_in st t x service method roots h i f = by (selected_at s st.store service method) refl
@@ -239,7 +239,7 @@ module _ (s : System) (past : Past) (z : IsSound s) where
           let w = selected_in st.store service method y h.store e in
           selection_in st t x y.0 (value.Ref y.1 ∷ roots) h (w.object, i) (λ k q. native_fits st.store h.store method y.0 y.1 roots k w q f)
 
-  take_in : (st : State) (t : ℕ) (x : Thread) (service : ServiceId) (method : MethodId) (p : Parcel) → IsStateIn s past st → IsHanded s past p → IsStateIn s past (after_take s st t x service method p)
+  pub take_in : (st : State) (t : ℕ) (x : Thread) (service : ServiceId) (method : MethodId) (p : Parcel) → IsStateIn s past st → IsHanded s past p → IsStateIn s past (after_take s st t x service method p)
   unfolding after_take with_store
   take_in st t x service method p h i = by (with_nodes st.store p) refl
     where
@@ -258,11 +258,11 @@ module _ (s : System) (past : Past) (z : IsSound s) where
 
   -- ---- an answer is resumed
 
-  first_value : (store : Store) (vs : List Value) → AllByRecursion (IsValueIn past store) vs → IsValueInSome past store (slice_get vs 0)
+  pub first_value : (store : Store) (vs : List Value) → AllByRecursion (IsValueIn past store) vs → IsValueInSome past store (slice_get vs 0)
   first_value store [] i = tt
   first_value store (v ∷ vs) i = i.0
 
-  value_in : (st : State) (t : ℕ) (x : Thread) (p : Parcel) → IsStateIn s past st → Fs s past z st.store x.frames → IsHanded s past p → IsStateIn s past (after_value s st t x p)
+  pub value_in : (st : State) (t : ℕ) (x : Thread) (p : Parcel) → IsStateIn s past st → Fs s past z st.store x.frames → IsHanded s past p → IsStateIn s past (after_value s st t x p)
   unfolding after_value with_store
   value_in st t x p h j i = by (with_nodes st.store p) refl
     where
@@ -278,7 +278,7 @@ module _ (s : System) (past : Past) (z : IsSound s) where
       by None e = throw_in s past z st t x 0 h j h.store.first
       by (Some store) e = fitted store (unpacked_in s past st.store p h.store i store e) (all_fit s false store (root_values st.store p) (expected_types s x))
 
-  thrown_object : (store : Store) (vs : List Value) (r : ℕ) → AllByRecursion (IsValueIn past store) vs → thrown_root s store vs ≡ Some r → IsObject store r
+  pub thrown_object : (store : Store) (vs : List Value) (r : ℕ) → AllByRecursion (IsValueIn past store) vs → thrown_root s store vs ≡ Some r → IsObject store r
   unfolding thrown_root
   thrown_object store (value.Ref n ∷ []) r i e = by (fits_class s store (value.Ref n) throwable_class) e
     where
@@ -287,7 +287,7 @@ module _ (s : System) (past : Past) (z : IsSound s) where
       by false e = cc
   thrown_object store _ r i e = cc
 
-  thrown_in : (st : State) (t : ℕ) (x : Thread) (p : Parcel) → IsStateIn s past st → Fs s past z st.store x.frames → IsHanded s past p → IsStateIn s past (after_thrown s st t x p)
+  pub thrown_in : (st : State) (t : ℕ) (x : Thread) (p : Parcel) → IsStateIn s past st → Fs s past z st.store x.frames → IsHanded s past p → IsStateIn s past (after_thrown s st t x p)
   unfolding after_thrown with_store
   thrown_in st t x p h j i = by (with_nodes st.store p) refl
     where
@@ -303,7 +303,7 @@ module _ (s : System) (past : Past) (z : IsSound s) where
       by None e = throw_in s past z st t x 0 h j h.store.first
       by (Some store) e = found store (unpacked_in s past st.store p h.store i store e) (thrown_root s store (root_values st.store p)) refl
 
-  resume_in : (st : State) (t : ℕ) (x : Thread) (r : Reply) → IsStateIn s past st → Fs s past z st.store x.frames → IsReplyIn s past r → IsStateIn s past (after_resume s st t x r)
+  pub resume_in : (st : State) (t : ℕ) (x : Thread) (r : Reply) → IsStateIn s past st → Fs s past z st.store x.frames → IsReplyIn s past r → IsStateIn s past (after_resume s st t x r)
   unfolding after_resume
   resume_in st t x (reply.Value p) h j i = value_in st t x p h j i
   resume_in st t x (reply.Thrown p) h j i = thrown_in st t x p h j i
@@ -312,12 +312,12 @@ module _ (s : System) (past : Past) (z : IsSound s) where
 
   -- ---- an export
 
-  value_object : (store : Store) (v : Value) → IsStoreIn s past store → IsValueIn past store v → IsObject store (object_of_value v)
+  pub value_object : (store : Store) (v : Value) → IsStoreIn s past store → IsValueIn past store v → IsObject store (object_of_value v)
   unfolding object_of_value
   value_object store (value.Ref r) h i = i
   value_object store _ h i = h.first
 
-  exported_in : (store : Store) (x : Thread) → IsStoreIn s past store → Fs s past z store x.frames → IsObject store (exported_object x)
+  pub exported_in : (store : Store) (x : Thread) → IsStoreIn s past store → Fs s past z store x.frames → IsObject store (exported_object x)
   unfolding exported_object
   exported_in store x h i = by (option_and_then (λ f. option_map object_of_value (slice_get f.stack.values 2)) (slice_get x.frames 0)) refl
     where
@@ -332,11 +332,11 @@ module _ (s : System) (past : Past) (z : IsSound s) where
   abbrev store_of : Store → ℕ → ServiceId → ClassId → Store
   store_of store r service iface = record store { exports = store.exports ++ record { object = r; service = service; iface = iface } ∷ [] }
 
-  export_later : (store : Store) (r : ℕ) (service : ServiceId) (iface : ClassId) → IsStoreIn s past store → IsObject store r → IsPortalIn past service.0 iface → IsLater s past store (store_of store r service iface)
+  pub export_later : (store : Store) (r : ℕ) (service : ServiceId) (iface : ClassId) → IsStoreIn s past store → IsObject store r → IsPortalIn past service.0 iface → IsLater s past store (store_of store r service iface)
   export_later store r service iface h o e =
       with_same_objects s past store (store_of store r service iface) refl h h.room refl h.statics h.literals (all_append (IsExportIn past store) store.exports (record { object = r; service = service; iface = iface } ∷ []) h.exports (record { object = o; known = e }, tt))
 
-  export_in : (st : State) (r : ℕ) (service : ServiceId) (iface : ClassId) (n : ℕ) → IsStateIn s past st → IsObject st.store r → IsPortalIn past service.0 iface → IsStateIn s past (with_export st r service iface n)
+  pub export_in : (st : State) (r : ℕ) (service : ServiceId) (iface : ClassId) (n : ℕ) → IsStateIn s past st → IsObject st.store r → IsPortalIn past service.0 iface → IsStateIn s past (with_export st r service iface n)
   unfolding with_export idle_thread
   export_in st r service iface n h o e =
       let l = export_later st.store r service iface h.store o e in
@@ -348,7 +348,7 @@ module _ (s : System) (past : Past) (z : IsSound s) where
             (all_replicate (IsThreadIn s past new) n idle_thread (record { frames = tt; stage = tt }));
       }
 
-  export_reply_in : (st : State) (t : ℕ) (x : Thread) (iface : ClassId) (n : ℕ) (service : ServiceId) (c : ClassId) → IsStateIn s past st → Fs s past z st.store x.frames → IsPortalIn past service.0 c → IsPortalIn past service.0 iface →
+  pub export_reply_in : (st : State) (t : ℕ) (x : Thread) (iface : ClassId) (n : ℕ) (service : ServiceId) (c : ClassId) → IsStateIn s past st → Fs s past z st.store x.frames → IsPortalIn past service.0 c → IsPortalIn past service.0 iface →
       IsStateIn s past (after_reply s (with_export (with_less_fuel st) (exported_object x) service iface n) t x (reply.Service service c))
   unfolding with_export with_less_fuel
   export_reply_in st t x iface n service c h j i e =
@@ -359,23 +359,23 @@ module _ (s : System) (past : Past) (z : IsSound s) where
 
   -- ---- entries
 
-  rest_in : (st : State) → IsStateIn s past st → IsStateIn s past (at_rest st)
+  pub rest_in : (st : State) → IsStateIn s past st → IsStateIn s past (at_rest st)
   unfolding at_rest
   rest_in st h = record { store = h.store; threads = h.threads }
 
-  running_in : (st : State) (t : ℕ) → IsStateIn s past st → IsStateIn s past (with_running_thread st t)
+  pub running_in : (st : State) (t : ℕ) → IsStateIn s past st → IsStateIn s past (with_running_thread st t)
   unfolding with_running_thread
   running_in st t h = record { store = h.store; threads = h.threads }
 
-  end_in : (st : State) (t : ℕ) (x : Thread) → IsStateIn s past st → IsStateIn s past (after_end st t x)
+  pub end_in : (st : State) (t : ℕ) (x : Thread) → IsStateIn s past st → IsStateIn s past (after_end st t x)
   unfolding after_end
   end_in st t x h = rest_in (with_thread st t (record x { call = None; frames = []; stage = Going })) (set_thread s past z st t (record x { call = None; frames = []; stage = Going }) h (record { frames = tt; stage = tt }))
 
-  plain_in : (st : State) (t : ℕ) (x : Thread) (r : Reply) → IsStateIn s past st → Fs s past z st.store x.frames → IsReplyIn s past r → IsStateIn s past (after_reply s (with_less_fuel st) t x r)
+  pub plain_in : (st : State) (t : ℕ) (x : Thread) (r : Reply) → IsStateIn s past st → Fs s past z st.store x.frames → IsReplyIn s past r → IsStateIn s past (after_reply s (with_less_fuel st) t x r)
   unfolding with_less_fuel
   plain_in st t x r h j i = reply_in (with_less_fuel st) t x r (less_fuel s past z st h) j i
 
-  act_in : (st : State) (t : ℕ) (x : Thread) (a : Act) (r : Reply) → IsStateIn s past st → Fs s past z st.store x.frames → IsReplyIn s past r → IsExportedIn past a r → IsStateIn s past (after_act s st t x a r)
+  pub act_in : (st : State) (t : ℕ) (x : Thread) (a : Act) (r : Reply) → IsStateIn s past st → Fs s past z st.store x.frames → IsReplyIn s past r → IsExportedIn past a r → IsStateIn s past (after_act s st t x a r)
   unfolding after_act with_running_thread with_less_fuel
   act_in st t x (act.Take c) (reply.Job service method p) h j i e = take_in (with_running_thread st t) t (record x { call = Some c; stage = Going }) service method p (running_in st t h) i
   act_in st t x (act.Resume c) r h j i e = resume_in (with_running_thread st t) t x r (running_in st t h) j i

@@ -43,7 +43,7 @@ use Rattle.std.specs.Option.{option_and_then, unwrap_or}
 -- ---- the start
 
 -- the class of arrays of strings, or java/lang/Object, of which an object has no cells
-strings_count : (s : System) → IsSound s → HasCountOf s (unwrap_or (class_named s (codes "[Ljava/lang/String;")) 0) 0
+pub strings_count : (s : System) → IsSound s → HasCountOf s (unwrap_or (class_named s (codes "[Ljava/lang/String;")) 0) 0
 unfolding opened_built_in
 strings_count s z = by (class_named s (codes "[Ljava/lang/String;")) refl
   where
@@ -51,7 +51,7 @@ strings_count s z = by (class_named s (codes "[Ljava/lang/String;")) refl
     by None e = λ q. rw (z.built_in 0 (omega arith)) refl
     by (Some c) e = (array_class_of s (codes "Ljava/lang/String;") c z e).any 0
 
-first_in : (s : System) (past : Past) (t : Template) → IsSound s → t.heap ≤ 131072 → IsStoreIn s past (first_store s t)
+pub first_in : (s : System) (past : Past) (t : Template) → IsSound s → t.heap ≤ 131072 → IsStoreIn s past (first_store s t)
 unfolding first_store first_objects object_of class_of_object opened_built_in unit_of
 first_in s past t z h = record {
   first = refl;
@@ -67,11 +67,11 @@ first_in s past t z h = record {
   exports = tt;
 }
 
-start_in : (s : System) (past : Past) (t : Template) → IsSound s → t.heap ≤ 131072 → IsStateIn s past (start_of s t)
+pub start_in : (s : System) (past : Past) (t : Template) → IsSound s → t.heap ≤ 131072 → IsStateIn s past (start_of s t)
 unfolding start_of idle_thread
 start_in s past t z h = finish_in s past z _ 0 _ None (record { store = first_in s past t z h; threads = (record { frames = tt; stage = tt }, tt) }) tt
 
-begun_in : (s : System) (past : Past) (t : ℕ) → IsSound s → IsSome (template_at s t) → IsStateIn s past (domain_state s t [])
+pub begun_in : (s : System) (past : Past) (t : ℕ) → IsSound s → IsSome (template_at s t) → IsStateIn s past (domain_state s t [])
 unfolding domain_state
 begun_in s past t z h = by (template_at s t) refl h
   where
@@ -81,7 +81,7 @@ begun_in s past t z h = by (template_at s t) refl h
 
 -- ---- known calls
 
-begun_known : (s : System) (t : ℕ) → ServeKnownCalls (domain_state s t [])
+pub begun_known : (s : System) (t : ℕ) → ServeKnownCalls (domain_state s t [])
 unfolding domain_state no_state
 begun_known s t = by (template_at s t)
   where
@@ -90,11 +90,11 @@ begun_known s t = by (template_at s t)
     by (Some x) = start_known s x
 
 -- an act that is well made takes a call with a number of 32 bits
-takes_known : (s : System) (past : Past) (a : Act) → IsWellMade s past a → TakesKnownCall s a
+pub takes_known : (s : System) (past : Past) (a : Act) → IsWellMade s past a → TakesKnownCall s a
 takes_known s past (act.Take c) h = h
 takes_known s past _ h = tt
 
-own_known : (s : System) (t d : ℕ) (e : Entry) (past : Past) → IsNext s past e →
+pub own_known : (s : System) (t d : ℕ) (e : Entry) (past : Past) → IsNext s past e →
     ServeKnownCalls (domain_state s t (own_entries past d)) → ServeKnownCalls (domain_state s t (own_entries (e ∷ past) d))
 unfolding own_entries domain_state
 own_known s t d e past n h = by (is_own d e)
@@ -112,7 +112,7 @@ calls_known s t d (e ∷ past) a = own_known s t d e past a.0 (calls_known s t d
 
 -- ---- exports
 
-is_made : (iface : ClassId) (k : ℕ) (service : ServiceId) (c : ClassId) → exported_interface (act.Export iface k) (reply.Service service c) ≡ Some iface
+pub is_made : (iface : ClassId) (k : ℕ) (service : ServiceId) (c : ClassId) → exported_interface (act.Export iface k) (reply.Service service c) ≡ Some iface
 unfolding exported_interface
 is_made iface k service c = refl
 
@@ -137,14 +137,14 @@ exported s e past d _ r admitted q f g = tt
 
 -- ---- the law
 
-entry_exported : (s : System) (e : Entry) (past : Past) → IsAdmittedPast s past → IsNext s past e → IsExportedIn (e ∷ past) e.act e.reply
+pub entry_exported : (s : System) (e : Entry) (past : Past) → IsAdmittedPast s past → IsNext s past e → IsExportedIn (e ∷ past) e.act e.reply
 entry_exported s e past a n = exported s e past e.domain.0 e.act e.reply a n.reply refl refl
 
 -- replies of what came before
-replies_before : (s : System) (e : Entry) (past : Past) → RepliesHold s (e ∷ past) → RepliesHold s past
+pub replies_before : (s : System) (e : Entry) (past : Past) → RepliesHold s (e ∷ past) → RepliesHold s past
 replies_before s e past h f p m = h f p (e ∷ m.0, ap (λ (xs : Past). e ∷ xs) m.1)
 
-own_state : (s : System) (t d : ℕ) (e : Entry) (past : Past) → IsSound s → IsAdmittedPast s past → IsNext s past e → IsReplyIn s (e ∷ past) e.reply → IsStateIn s past (domain_state s t (own_entries past d)) → IsStateIn s (e ∷ past) (domain_state s t (own_entries (e ∷ past) d))
+pub own_state : (s : System) (t d : ℕ) (e : Entry) (past : Past) → IsSound s → IsAdmittedPast s past → IsNext s past e → IsReplyIn s (e ∷ past) e.reply → IsStateIn s past (domain_state s t (own_entries past d)) → IsStateIn s (e ∷ past) (domain_state s t (own_entries (e ∷ past) d))
 unfolding own_entries domain_state
 own_state s t d e past z a n r h = by (is_own d e)
   where

@@ -44,37 +44,37 @@ module _ (s : System) where
 
   -- ---- parts of a state
 
-  thread_known : (st : State) (t : ℕ) (x : Thread) → ServeKnownCalls st → ServesKnownCall x → ServeKnownCalls (with_thread st t x)
+  pub thread_known : (st : State) (t : ℕ) (x : Thread) → ServeKnownCalls st → ServesKnownCall x → ServeKnownCalls (with_thread st t x)
   unfolding with_thread
   thread_known st t x h i = all_set ServesKnownCall st.threads t x i h
 
-  store_known : (st : State) (store : Store) → ServeKnownCalls st → ServeKnownCalls (with_store st store)
+  pub store_known : (st : State) (store : Store) → ServeKnownCalls st → ServeKnownCalls (with_store st store)
   unfolding with_store
   store_known st store h = h
 
-  fuel_known : (st : State) → ServeKnownCalls st → ServeKnownCalls (with_less_fuel st)
+  pub fuel_known : (st : State) → ServeKnownCalls st → ServeKnownCalls (with_less_fuel st)
   unfolding with_less_fuel
   fuel_known st h = h
 
-  rest_known : (st : State) → ServeKnownCalls st → ServeKnownCalls (at_rest st)
+  pub rest_known : (st : State) → ServeKnownCalls st → ServeKnownCalls (at_rest st)
   unfolding at_rest
   rest_known st h = h
 
-  running_known : (st : State) (t : ℕ) → ServeKnownCalls st → ServeKnownCalls (with_running_thread st t)
+  pub running_known : (st : State) (t : ℕ) → ServeKnownCalls st → ServeKnownCalls (with_running_thread st t)
   unfolding with_running_thread
   running_known st t h = h
 
-  frames_known : (st : State) (t : ℕ) (x : Thread) (fs : List Frame) → ServeKnownCalls st → ServesKnownCall x → ServeKnownCalls (with_frames s st t x fs)
+  pub frames_known : (st : State) (t : ℕ) (x : Thread) (fs : List Frame) → ServeKnownCalls st → ServesKnownCall x → ServeKnownCalls (with_frames s st t x fs)
   unfolding with_frames
   frames_known st t x fs h i = thread_known st t _ h i
 
-  stage_known : (st : State) (t : ℕ) (x : Thread) (g : Stage) → ServeKnownCalls st → ServesKnownCall x → ServeKnownCalls (with_stage st t x g)
+  pub stage_known : (st : State) (t : ℕ) (x : Thread) (g : Stage) → ServeKnownCalls st → ServesKnownCall x → ServeKnownCalls (with_stage st t x g)
   unfolding with_stage
   stage_known st t x g h i = thread_known st t _ h i
 
   -- ---- throwing and methods
 
-  throw_known : (st : State) (t : ℕ) (x : Thread) (r : ℕ) → ServeKnownCalls st → ServesKnownCall x → ServeKnownCalls (after_throw s st t x r)
+  pub throw_known : (st : State) (t : ℕ) (x : Thread) (r : ℕ) → ServeKnownCalls st → ServesKnownCall x → ServeKnownCalls (after_throw s st t x r)
   unfolding after_throw
   throw_known st t x r h i = by (frames_at_handler s (unwrap_or (class_of_object st.store r) 0) r x.frames) refl
     where
@@ -82,12 +82,12 @@ module _ (s : System) where
       by [] e = rw e (stage_known st t x (Threw r) h i)
       by (f ∷ fs) e = rw e (frames_known st t x (f ∷ fs) h i)
 
-  raise_known : (st : State) (t : ℕ) (x : Thread) (c : ℕ) → ServeKnownCalls st → ServesKnownCall x → ServeKnownCalls (after_raise s st t x c)
+  pub raise_known : (st : State) (t : ℕ) (x : Thread) (c : ℕ) → ServeKnownCalls st → ServesKnownCall x → ServeKnownCalls (after_raise s st t x c)
   unfolding after_raise
   raise_known st t x c h i =
       throw_known (with_store st (new_exception s st.store c).0) t x (new_exception s st.store c).1 (store_known st (new_exception s st.store c).0 h) i
 
-  begin_known : (st : State) (t : ℕ) (x : Thread) (m : ℕ) (args : List Value) → ServeKnownCalls st → ServesKnownCall x → ServeKnownCalls (after_begin s st t x m args)
+  pub begin_known : (st : State) (t : ℕ) (x : Thread) (m : ℕ) (args : List Value) → ServeKnownCalls st → ServesKnownCall x → ServeKnownCalls (after_begin s st t x m args)
   unfolding after_begin
   begin_known st t x m args h i = by (is_overflow s m []) (frame_of s m args)
     where
@@ -99,7 +99,7 @@ module _ (s : System) where
       by false None = stage_known st t x Bad h i
       by false (Some f) = frames_known st t x (f ∷ []) h i
 
-  finish_known : (st : State) (t : ℕ) (x : Thread) (v : Option Value) → ServeKnownCalls st → ServesKnownCall x → ServeKnownCalls (after_finish s st t x v)
+  pub finish_known : (st : State) (t : ℕ) (x : Thread) (v : Option Value) → ServeKnownCalls st → ServesKnownCall x → ServeKnownCalls (after_finish s st t x v)
   unfolding after_finish
   finish_known st t x v h i = by x.waiting refl
     where
@@ -109,7 +109,7 @@ module _ (s : System) where
 
   -- ---- one step
 
-  numeric_known : (st : State) (t : ℕ) (x : Thread) (f : Frame) (fs : List Frame) (next : ℕ) (o : NumericOutcome) → ServeKnownCalls st → ServesKnownCall x → IsStepOfKnown (after_numeric s st t x f fs next o)
+  pub numeric_known : (st : State) (t : ℕ) (x : Thread) (f : Frame) (fs : List Frame) (next : ℕ) (o : NumericOutcome) → ServeKnownCalls st → ServesKnownCall x → IsStepOfKnown (after_numeric s st t x f fs next o)
   unfolding after_numeric ends_by_bad_code
   numeric_known st t x f fs next (numeric.Next l k) h i = thread_known (with_less_fuel st) t _ (fuel_known st h) i
   numeric_known st t x f fs next (numeric.Jump to l k) h i = thread_known (with_less_fuel st) t _ (fuel_known st h) i
@@ -121,10 +121,10 @@ module _ (s : System) where
   abbrev spent : State → Store → State
   spent st store = with_store (with_less_fuel st) store
 
-  spent_known : (st : State) (store : Store) → ServeKnownCalls st → ServeKnownCalls (spent st store)
+  pub spent_known : (st : State) (store : Store) → ServeKnownCalls st → ServeKnownCalls (spent st store)
   spent_known st store h = store_known (with_less_fuel st) store (fuel_known st h)
 
-  object_known : (st : State) (t : ℕ) (x : Thread) (o : ObjectOutcome) → ServeKnownCalls st → ServesKnownCall x → IsStepOfKnown (after_object s st t x o)
+  pub object_known : (st : State) (t : ℕ) (x : Thread) (o : ObjectOutcome) → ServeKnownCalls st → ServesKnownCall x → IsStepOfKnown (after_object s st t x o)
   unfolding after_object ends_by_bad_code
   object_known st t x (object.Next core) h i = thread_known (spent st core.store) t _ (spent_known st core.store h) i
   object_known st t x (object.Raise c) h i = raise_known (with_less_fuel st) t x c (fuel_known st h) i
@@ -134,7 +134,7 @@ module _ (s : System) where
   object_known st t x object.BadCode h i = tt
   object_known st t x object.NotMine h i = tt
 
-  row_known : (st : State) (t : ℕ) (x : Thread) (f : Frame) (fs : List Frame) (i : Reading) → ServeKnownCalls st → ServesKnownCall x → IsStepOfKnown (row s st t x f fs i)
+  pub row_known : (st : State) (t : ℕ) (x : Thread) (f : Frame) (fs : List Frame) (i : Reading) → ServeKnownCalls st → ServesKnownCall x → IsStepOfKnown (row s st t x f fs i)
   unfolding row
   row_known st t x f fs i h k = by (numeric_row s (class_of_frame s f) (stack_limit s f) i.instr f.locals f.stack.values) refl
     where
@@ -145,7 +145,7 @@ module _ (s : System) where
       by (numeric.Raise c) w = rw w (numeric_known st t x f fs i.next (numeric.Raise c) h k)
       by numeric.BadCode w = rw w (numeric_known st t x f fs i.next numeric.BadCode h k)
 
-  framed_known : (st : State) (t : ℕ) (x : Thread) (fs : List Frame) → ServeKnownCalls st → ServesKnownCall x → IsStepOfKnown (framed_step s st t x fs)
+  pub framed_known : (st : State) (t : ℕ) (x : Thread) (fs : List Frame) → ServeKnownCalls st → ServesKnownCall x → IsStepOfKnown (framed_step s st t x fs)
   unfolding framed_step ends_by_bad_code
   framed_known st t x [] h k = tt
   framed_known st t x (f ∷ fs) h k = by (instruction_at (code_bytes s f) f.pc)
@@ -161,7 +161,7 @@ module _ (s : System) where
       by None = tt
       by (Some i) = fueled i (st.fuel == 0)
 
-  staged_known : (st : State) (t : ℕ) (x : Thread) (g : Stage) → ServeKnownCalls st → ServesKnownCall x → IsStepOfKnown (stage_step s st t x g)
+  pub staged_known : (st : State) (t : ℕ) (x : Thread) (g : Stage) → ServeKnownCalls st → ServesKnownCall x → IsStepOfKnown (stage_step s st t x g)
   unfolding stage_step
   staged_known st t x Going h k = framed_known st t x x.frames h k
   staged_known st t x (Returned v) h k = tt
@@ -176,7 +176,7 @@ module _ (s : System) where
       by None e = tt
       by (Some x) e = staged_known st t x x.stage h (all_get ServesKnownCall st.threads t x e h)
 
-  steps_known : (t n : ℕ) (st : State) → ServeKnownCalls st → ServeKnownCalls (after_steps s t n st)
+  pub steps_known : (t n : ℕ) (st : State) → ServeKnownCalls st → ServeKnownCalls (after_steps s t n st)
   unfolding after_steps
   steps_known t zero st h = h
   steps_known t (suc n) st h = by (step s st t) (step_known st t h) (λ new k. steps_known t n new k)
@@ -196,7 +196,7 @@ module _ (s : System) where
 
   -- ---- entries
 
-  result_known : (st : State) (t : ℕ) (x : Thread) (v : Option Value) → ServeKnownCalls st → ServesKnownCall x → ServeKnownCalls (after_result s st t x v)
+  pub result_known : (st : State) (t : ℕ) (x : Thread) (v : Option Value) → ServeKnownCalls st → ServesKnownCall x → ServeKnownCalls (after_result s st t x v)
   unfolding after_result
   result_known st t x v h i = by x.frames refl
     where
@@ -204,7 +204,7 @@ module _ (s : System) where
       by [] e = rw e h
       by (f ∷ fs) e = rw e (frames_known st t _ _ h i)
 
-  split_known : (st : State) (t : ℕ) (x : Thread) (halves : List Value) → ServeKnownCalls st → ServesKnownCall x → ServeKnownCalls (after_split s st t x halves)
+  pub split_known : (st : State) (t : ℕ) (x : Thread) (halves : List Value) → ServeKnownCalls st → ServesKnownCall x → ServeKnownCalls (after_split s st t x halves)
   unfolding after_split
   split_known st t x halves h i = by (new_object st.store _ halves)
     where
@@ -212,7 +212,7 @@ module _ (s : System) where
       by None = throw_known st t x 0 h i
       by (Some y) = result_known (with_store st y.0) t x (Some (value.Ref y.1)) (store_known st y.0 h) i
 
-  reply_known : (st : State) (t : ℕ) (x : Thread) (r : Reply) → ServeKnownCalls st → ServesKnownCall x → ServeKnownCalls (after_reply s st t x r)
+  pub reply_known : (st : State) (t : ℕ) (x : Thread) (r : Reply) → ServeKnownCalls st → ServesKnownCall x → ServeKnownCalls (after_reply s st t x r)
   unfolding after_reply
   reply_known st t x (reply.Service service c) h i = result_known st t x (Some (value.Portal service c)) h i
   reply_known st t x reply.NoName h i = result_known st t x (Some value.Null) h i
@@ -224,7 +224,7 @@ module _ (s : System) where
   reply_known st t x (reply.Refused r) h i = raise_known st t x (exception_of r) h i
   reply_known st t x _ h i = result_known st t x None h i
 
-  native_known : (st : State) (t : ℕ) (x : Thread) (o : BuiltInOutcome) → ServeKnownCalls st → ServesKnownCall x → ServeKnownCalls (after_built_in s st t x o)
+  pub native_known : (st : State) (t : ℕ) (x : Thread) (o : BuiltInOutcome) → ServeKnownCalls st → ServesKnownCall x → ServeKnownCalls (after_built_in s st t x o)
   unfolding after_built_in
   native_known st t x (Gives store v) h i = stage_known (with_store st store) t x (Returned v) (store_known st store h) i
   native_known st t x (Raises c) h i = raise_known st t (record x { frames = [] }) c h i
@@ -232,7 +232,7 @@ module _ (s : System) where
   native_known st t x (Performs a) h i = stage_known st t x Bad h i
   native_known st t x Unfit h i = stage_known st t x Bad h i
 
-  selection_known : (st : State) (t : ℕ) (x : Thread) (m : ℕ) (args : List Value) → ServeKnownCalls st → ServesKnownCall x → ServeKnownCalls (after_selection s st t x m args)
+  pub selection_known : (st : State) (t : ℕ) (x : Thread) (m : ℕ) (args : List Value) → ServeKnownCalls st → ServesKnownCall x → ServeKnownCalls (after_selection s st t x m args)
   unfolding after_selection
   selection_known st t x m args h i = by (method_at s m)
     where
@@ -248,7 +248,7 @@ module _ (s : System) where
       by None = stage_known st t x Bad h i
       by (Some k) = here k (is_abstract k.flags) (is_built_in k.class.0)
 
-  roots_known : (st : State) (t : ℕ) (x : Thread) (service : ServiceId) (method : MethodId) (roots : List Value) → ServeKnownCalls st → ServesKnownCall x → ServeKnownCalls (after_roots s st t x service method roots)
+  pub roots_known : (st : State) (t : ℕ) (x : Thread) (service : ServiceId) (method : MethodId) (roots : List Value) → ServeKnownCalls st → ServesKnownCall x → ServeKnownCalls (after_roots s st t x service method roots)
   unfolding after_roots
   roots_known st t x service method roots h i = by (selected_at s st.store service method)
     where
@@ -256,7 +256,7 @@ module _ (s : System) where
       by None = stage_known st t x Bad h i
       by (Some y) = selection_known st t x y.0 (value.Ref y.1 ∷ roots) h i
 
-  take_known : (st : State) (t : ℕ) (x : Thread) (service : ServiceId) (method : MethodId) (p : Parcel) → ServeKnownCalls st → ServesKnownCall x → ServeKnownCalls (after_take s st t x service method p)
+  pub take_known : (st : State) (t : ℕ) (x : Thread) (service : ServiceId) (method : MethodId) (p : Parcel) → ServeKnownCalls st → ServesKnownCall x → ServeKnownCalls (after_take s st t x service method p)
   unfolding after_take
   take_known st t x service method p h i = by (with_nodes st.store p)
     where
@@ -272,7 +272,7 @@ module _ (s : System) where
       by None = stage_known st t x (Threw 0) h i
       by (Some store) = fitted store (all_fit s false store (root_values st.store p) (parameters_of s method))
 
-  value_known : (st : State) (t : ℕ) (x : Thread) (p : Parcel) → ServeKnownCalls st → ServesKnownCall x → ServeKnownCalls (after_value s st t x p)
+  pub value_known : (st : State) (t : ℕ) (x : Thread) (p : Parcel) → ServeKnownCalls st → ServesKnownCall x → ServeKnownCalls (after_value s st t x p)
   unfolding after_value
   value_known st t x p h i = by (with_nodes st.store p)
     where
@@ -287,7 +287,7 @@ module _ (s : System) where
       by None = throw_known st t x 0 h i
       by (Some store) = fitted store (all_fit s false store (root_values st.store p) (expected_types s x))
 
-  thrown_known : (st : State) (t : ℕ) (x : Thread) (p : Parcel) → ServeKnownCalls st → ServesKnownCall x → ServeKnownCalls (after_thrown s st t x p)
+  pub thrown_known : (st : State) (t : ℕ) (x : Thread) (p : Parcel) → ServeKnownCalls st → ServesKnownCall x → ServeKnownCalls (after_thrown s st t x p)
   unfolding after_thrown
   thrown_known st t x p h i = by (with_nodes st.store p)
     where
@@ -302,18 +302,18 @@ module _ (s : System) where
       by None = throw_known st t x 0 h i
       by (Some store) = found store (thrown_root s store (root_values st.store p))
 
-  resume_known : (st : State) (t : ℕ) (x : Thread) (r : Reply) → ServeKnownCalls st → ServesKnownCall x → ServeKnownCalls (after_resume s st t x r)
+  pub resume_known : (st : State) (t : ℕ) (x : Thread) (r : Reply) → ServeKnownCalls st → ServesKnownCall x → ServeKnownCalls (after_resume s st t x r)
   unfolding after_resume
   resume_known st t x (reply.Value p) h i = value_known st t x p h i
   resume_known st t x (reply.Thrown p) h i = thrown_known st t x p h i
   resume_known st t x reply.CopyFailed h i = raise_known st t x copy_exception h i
   resume_known st t x _ h i = raise_known st t x ended_exception h i
 
-  export_known : (st : State) (r : ℕ) (service : ServiceId) (iface : ClassId) (n : ℕ) → ServeKnownCalls st → ServeKnownCalls (with_export st r service iface n)
+  pub export_known : (st : State) (r : ℕ) (service : ServiceId) (iface : ClassId) (n : ℕ) → ServeKnownCalls st → ServeKnownCalls (with_export st r service iface n)
   unfolding with_export idle_thread
   export_known st r service iface n h = all_append ServesKnownCall st.threads (replicate n idle_thread) h (all_replicate ServesKnownCall n idle_thread tt)
 
-  end_known : (st : State) (t : ℕ) (x : Thread) → ServeKnownCalls st → ServeKnownCalls (after_end st t x)
+  pub end_known : (st : State) (t : ℕ) (x : Thread) → ServeKnownCalls st → ServeKnownCalls (after_end st t x)
   unfolding after_end
   end_known st t x h = rest_known _ (thread_known st t (record x { call = None; frames = []; stage = Going }) h tt)
 
@@ -322,7 +322,7 @@ module _ (s : System) where
   TakesKnownCall (act.Take c) = IsId c.0
   TakesKnownCall _ = Unit {0}
 
-  act_known : (st : State) (t : ℕ) (x : Thread) (a : Act) (r : Reply) → ServeKnownCalls st → ServesKnownCall x → TakesKnownCall a → ServeKnownCalls (after_act s st t x a r)
+  pub act_known : (st : State) (t : ℕ) (x : Thread) (a : Act) (r : Reply) → ServeKnownCalls st → ServesKnownCall x → TakesKnownCall a → ServeKnownCalls (after_act s st t x a r)
   unfolding after_act
   act_known st t x (act.Take c) (reply.Job service method p) h i k =
       take_known (with_running_thread st t) t (record x { call = Some c; stage = Going }) service method p (running_known st t h) k

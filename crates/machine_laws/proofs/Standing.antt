@@ -35,7 +35,7 @@ abbrev pub StepKeeps : State → StepOutcome → Type 0
 StepKeeps st (Step new) = Keeps (with_less_fuel st) new
 StepKeeps st (Ask a) = ⊤
 
-throw_keeps : (s : System) (st : State) (t : ℕ) (x : Thread) (r : ℕ) → Keeps st (after_throw s st t x r)
+pub throw_keeps : (s : System) (st : State) (t : ℕ) (x : Thread) (r : ℕ) → Keeps st (after_throw s st t x r)
 unfolding after_throw with_stage with_frames with_thread
 throw_keeps s st t x r = by (frames_at_handler s (unwrap_or (class_of_object st.store r) 0) r x.frames) refl
   where
@@ -43,14 +43,14 @@ throw_keeps s st t x r = by (frames_at_handler s (unwrap_or (class_of_object st.
     by [] e = rw e (record { running = refl; fuel = refl })
     by (f ∷ fs) e = rw e (record { running = refl; fuel = refl })
 
-raise_keeps : (s : System) (st : State) (t : ℕ) (x : Thread) (c : ℕ) → Keeps st (after_raise s st t x c)
+pub raise_keeps : (s : System) (st : State) (t : ℕ) (x : Thread) (c : ℕ) → Keeps st (after_raise s st t x c)
 unfolding after_raise with_store
 raise_keeps s st t x c =
     let e = new_exception s st.store c in
     let k = throw_keeps s (with_store st e.0) t x e.1 in
     record { running = k.running; fuel = k.fuel }
 
-begin_keeps : (s : System) (st : State) (t : ℕ) (x : Thread) (m : ℕ) (args : List Value) → Keeps st (after_begin s st t x m args)
+pub begin_keeps : (s : System) (st : State) (t : ℕ) (x : Thread) (m : ℕ) (args : List Value) → Keeps st (after_begin s st t x m args)
 unfolding after_begin with_stage with_frames with_thread
 begin_keeps s st t x m args = by (is_overflow s m []) (frame_of s m args) refl refl
   where
@@ -59,7 +59,7 @@ begin_keeps s st t x m args = by (is_overflow s m []) (frame_of s m args) refl r
     by false None e q = rw (e, q, after_begin) (record { running = refl; fuel = refl })
     by false (Some f) e q = rw (e, q, after_begin) (record { running = refl; fuel = refl })
 
-finish_keeps : (s : System) (st : State) (t : ℕ) (x : Thread) (v : Option Value) → Keeps st (after_finish s st t x v)
+pub finish_keeps : (s : System) (st : State) (t : ℕ) (x : Thread) (v : Option Value) → Keeps st (after_finish s st t x v)
 unfolding after_finish with_stage with_thread
 finish_keeps s st t x v = by x.waiting refl
   where
@@ -67,14 +67,14 @@ finish_keeps s st t x v = by x.waiting refl
     by [] e = rw e (record { running = refl; fuel = refl })
     by (m ∷ ms) e = rw e (begin_keeps s st t _ m _)
 
-numeric_keeps : (s : System) (st : State) (t : ℕ) (x : Thread) (f : Frame) (fs : List Frame) (next : ℕ) (o : NumericOutcome) → StepKeeps st (after_numeric s st t x f fs next o)
+pub numeric_keeps : (s : System) (st : State) (t : ℕ) (x : Thread) (f : Frame) (fs : List Frame) (next : ℕ) (o : NumericOutcome) → StepKeeps st (after_numeric s st t x f fs next o)
 unfolding after_numeric with_thread ends_by_bad_code
 numeric_keeps s st t x f fs next (numeric.Next locals stack) = record { running = refl; fuel = refl }
 numeric_keeps s st t x f fs next (numeric.Jump to locals stack) = record { running = refl; fuel = refl }
 numeric_keeps s st t x f fs next (numeric.Raise c) = raise_keeps s (with_less_fuel st) t x c
 numeric_keeps s st t x f fs next _ = tt
 
-object_keeps : (s : System) (st : State) (t : ℕ) (x : Thread) (o : ObjectOutcome) → StepKeeps st (after_object s st t x o)
+pub object_keeps : (s : System) (st : State) (t : ℕ) (x : Thread) (o : ObjectOutcome) → StepKeeps st (after_object s st t x o)
 unfolding after_object with_thread with_store ends_by_bad_code
 object_keeps s st t x (object.Next core) = record { running = refl; fuel = refl }
 object_keeps s st t x (object.Raise c) = raise_keeps s (with_less_fuel st) t x c
@@ -85,7 +85,7 @@ object_keeps s st t x (object.Finish v core) =
     let k = finish_keeps s (with_store (with_less_fuel st) core.store) t x v in record { running = k.running; fuel = k.fuel }
 object_keeps s st t x _ = tt
 
-row_keeps : (s : System) (st : State) (t : ℕ) (x : Thread) (f : Frame) (fs : List Frame) (i : Reading) → StepKeeps st (row s st t x f fs i)
+pub row_keeps : (s : System) (st : State) (t : ℕ) (x : Thread) (f : Frame) (fs : List Frame) (i : Reading) → StepKeeps st (row s st t x f fs i)
 unfolding row
 row_keeps s st t x f fs i = by (numeric_row s (class_of_frame s f) (stack_limit s f) i.instr f.locals f.stack.values) refl
   where
@@ -97,16 +97,16 @@ row_keeps s st t x f fs i = by (numeric_row s (class_of_frame s f) (stack_limit 
     by numeric.BadCode e = rw e (numeric_keeps s st t x f fs i.next numeric.BadCode)
 
 -- a step takes one of the fuel, and there is no step without fuel
-abbrev StepSpends : State → StepOutcome → Type 0
+abbrev pub StepSpends : State → StepOutcome → Type 0
 StepSpends st (Step new) = (new.running ≡ st.running) × (suc new.fuel ≡ st.fuel)
 StepSpends st (Ask a) = ⊤
 
-spent : (st : State) (o : StepOutcome) → (st.fuel == 0) ≡ false → StepKeeps st o → StepSpends st o
+pub spent : (st : State) (o : StepOutcome) → (st.fuel == 0) ≡ false → StepKeeps st o → StepSpends st o
 unfolding with_less_fuel
 spent st (Step new) h k = (k.running, grind (arith, nat_tests, h, k.fuel))
 spent st (Ask a) h k = tt
 
-framed_spends : (s : System) (st : State) (t : ℕ) (x : Thread) (fs : List Frame) → StepSpends st (framed_step s st t x fs)
+pub framed_spends : (s : System) (st : State) (t : ℕ) (x : Thread) (fs : List Frame) → StepSpends st (framed_step s st t x fs)
 unfolding framed_step ends_by_bad_code
 framed_spends s st t x [] = tt
 framed_spends s st t x (f ∷ fs) = by (instruction_at (code_bytes s f) f.pc) refl
@@ -119,7 +119,7 @@ framed_spends s st t x (f ∷ fs) = by (instruction_at (code_bytes s f) f.pc) re
     by None e = rw (e, framed_step) tt
     by (Some i) e = rw (e, framed_step) (here i (st.fuel == 0) refl)
 
-stage_spends : (s : System) (st : State) (t : ℕ) (x : Thread) (g : Stage) → StepSpends st (stage_step s st t x g)
+pub stage_spends : (s : System) (st : State) (t : ℕ) (x : Thread) (g : Stage) → StepSpends st (stage_step s st t x g)
 unfolding stage_step
 stage_spends s st t x Going = framed_spends s st t x x.frames
 stage_spends s st t x _ = tt
@@ -136,25 +136,25 @@ step_spends s st t = by (thread_at st t)
 -- ---- so many steps
 
 -- a step is a state or an act
-step_cases : (o : StepOutcome) → ((new : State) × (o ≡ Step new)) ⊎ ((a : Act) × (o ≡ Ask a))
+pub step_cases : (o : StepOutcome) → ((new : State) × (o ≡ Step new)) ⊎ ((a : Act) × (o ≡ Ask a))
 step_cases (Step new) = inl (new, refl)
 step_cases (Ask a) = inr (a, refl)
 
-steps_on : (s : System) (t n : ℕ) (st new : State) → step s st t ≡ Step new → after_steps s t (suc n) st ≡ after_steps s t n new
+pub steps_on : (s : System) (t n : ℕ) (st new : State) → step s st t ≡ Step new → after_steps s t (suc n) st ≡ after_steps s t n new
 unfolding after_steps
 steps_on s t n st new e = rw (e, after_steps) refl
 
-steps_stop : (s : System) (t n : ℕ) (st : State) (a : Act) → step s st t ≡ Ask a → after_steps s t n st ≡ st
+pub steps_stop : (s : System) (t n : ℕ) (st : State) (a : Act) → step s st t ≡ Ask a → after_steps s t n st ≡ st
 unfolding after_steps
 steps_stop s t zero st a e = refl
 steps_stop s t (suc n) st a e = rw (e, after_steps) refl
 
-no_steps : (s : System) (t : ℕ) (st : State) → after_steps s t 0 st ≡ st
+pub no_steps : (s : System) (t : ℕ) (st : State) → after_steps s t 0 st ≡ st
 unfolding after_steps
 no_steps s t st = refl
 
 -- steps keep the running thread
-steps_running : (s : System) (t n : ℕ) (st : State) → (after_steps s t n st).running ≡ st.running
+pub steps_running : (s : System) (t n : ℕ) (st : State) → (after_steps s t n st).running ≡ st.running
 steps_running s t zero st = ap (λ (x : State). x.running) (no_steps s t st)
 steps_running s t (suc n) st = elim (step_cases (step s st t)) [
   | inl x ↦ let k = subst (StepSpends st) x.1 (step_spends s st t) in ap (λ (x : State). x.running) (steps_on s t n st x.0 x.1) ∙ steps_running s t n x.0 ∙ k.0
@@ -162,7 +162,7 @@ steps_running s t (suc n) st = elim (step_cases (step s st t)) [
 ]
 
 -- one step more
-steps_more : (s : System) (t n : ℕ) (st new : State) → step s (after_steps s t n st) t ≡ Step new → after_steps s t (suc n) st ≡ new
+pub steps_more : (s : System) (t n : ℕ) (st new : State) → step s (after_steps s t n st) t ≡ Step new → after_steps s t (suc n) st ≡ new
 steps_more s t zero st new e = let q : step s st t ≡ Step new = subst (λ (x : State). step s x t ≡ Step new) (no_steps s t st) e in steps_on s t 0 st new q ∙ no_steps s t new
 steps_more s t (suc n) st new e = elim (step_cases (step s st t)) [
   | inl x ↦ steps_on s t (suc n) st x.0 x.1 ∙ steps_more s t n x.0 new (subst (λ (y : State). step s y t ≡ Step new) (steps_on s t n st x.0 x.1) e)
@@ -172,7 +172,7 @@ steps_more s t (suc n) st new e = elim (step_cases (step s st t)) [
 ]
 
 -- steps end where an act is asked for
-steps_end : (s : System) (t n m : ℕ) (st : State) (a : Act) → step s (after_steps s t n st) t ≡ Ask a → n ≤ m → after_steps s t m st ≡ after_steps s t n st
+pub steps_end : (s : System) (t n m : ℕ) (st : State) (a : Act) → step s (after_steps s t n st) t ≡ Ask a → n ≤ m → after_steps s t m st ≡ after_steps s t n st
 steps_end s t zero m st a e h = steps_stop s t m st a (subst (λ (x : State). step s x t ≡ Ask a) (no_steps s t st) e) ∙ sym (no_steps s t st)
 steps_end s t (suc n) zero st a e h = absurd (omega (arith, h))
 steps_end s t (suc n) (suc m) st a e h = elim (step_cases (step s st t)) [
@@ -183,7 +183,7 @@ steps_end s t (suc n) (suc m) st a e h = elim (step_cases (step s st t)) [
 ]
 
 -- steps after steps
-steps_add : (s : System) (t n m p : ℕ) (st : State) → p ≡ n + m → after_steps s t m (after_steps s t n st) ≡ after_steps s t p st
+pub steps_add : (s : System) (t n m p : ℕ) (st : State) → p ≡ n + m → after_steps s t m (after_steps s t n st) ≡ after_steps s t p st
 steps_add s t zero m p st h = ap (after_steps s t m) (no_steps s t st) ∙ ap (λ (k : ℕ). after_steps s t k st) (omega (arith, h))
 steps_add s t (suc n) m zero st h = absurd (omega (arith, h))
 steps_add s t (suc n) m (suc p) st h = elim (step_cases (step s st t)) [
@@ -192,7 +192,7 @@ steps_add s t (suc n) m (suc p) st h = elim (step_cases (step s st t)) [
 ]
 
 -- there is no step without fuel
-spent_asks : (s : System) (t : ℕ) (st : State) → st.fuel ≡ 0 → (a : Act) × (step s st t ≡ Ask a)
+pub spent_asks : (s : System) (t : ℕ) (st : State) → st.fuel ≡ 0 → (a : Act) × (step s st t ≡ Ask a)
 spent_asks s t st h = by (step_cases (step s st t))
   where
     by : ((new : State) × (step s st t ≡ Step new)) ⊎ ((b : Act) × (step s st t ≡ Ask b)) → (a : Act) × (step s st t ≡ Ask a)
@@ -200,7 +200,7 @@ spent_asks s t st h = by (step_cases (step s st t))
     by (inr x) = x
 
 -- the fuel is enough for the next act
-fuel_asks : (s : System) (t n : ℕ) (st : State) → st.fuel ≡ n → (a : Act) × (step s (after_steps s t n st) t ≡ Ask a)
+pub fuel_asks : (s : System) (t n : ℕ) (st : State) → st.fuel ≡ n → (a : Act) × (step s (after_steps s t n st) t ≡ Ask a)
 fuel_asks s t zero st h = let x = spent_asks s t st h in (x.0, ap (λ (y : State). step s y t) (no_steps s t st) ∙ x.1)
 fuel_asks s t (suc n) st h = elim (step_cases (step s st t)) [
   | inl x ↦
@@ -211,34 +211,34 @@ fuel_asks s t (suc n) st h = elim (step_cases (step s st t)) [
 
 -- ---- states that stand
 
-advanced_at : (s : System) (n t : ℕ) (st : State) → st.running ≡ Some t → advanced s n st ≡ after_steps s t n st
+pub advanced_at : (s : System) (n t : ℕ) (st : State) → st.running ≡ Some t → advanced s n st ≡ after_steps s t n st
 unfolding advanced
 advanced_at s n t st h = ap (λ (o : Option ℕ). elim o as (λ _. State) [ None ↦ st | Some k ↦ after_steps s k n st ]) h
 
-advanced_idle : (s : System) (n : ℕ) (st : State) → st.running ≡ None → advanced s n st ≡ st
+pub advanced_idle : (s : System) (n : ℕ) (st : State) → st.running ≡ None → advanced s n st ≡ st
 unfolding advanced
 advanced_idle s n st h = ap (λ (o : Option ℕ). elim o as (λ _. State) [ None ↦ st | Some k ↦ after_steps s k n st ]) h
 
 -- the running thread, where there is one
-runs_or_not : (o : Option ℕ) → (o ≡ None) ⊎ ((t : ℕ) × (o ≡ Some t))
+pub runs_or_not : (o : Option ℕ) → (o ≡ None) ⊎ ((t : ℕ) × (o ≡ Some t))
 runs_or_not None = inl refl
 runs_or_not (Some t) = inr (t, refl)
 
-advanced_running : (s : System) (n : ℕ) (st : State) → (advanced s n st).running ≡ st.running
+pub advanced_running : (s : System) (n : ℕ) (st : State) → (advanced s n st).running ≡ st.running
 advanced_running s n st = by (runs_or_not st.running)
   where
     by : (st.running ≡ None) ⊎ ((t : ℕ) × (st.running ≡ Some t)) → (advanced s n st).running ≡ st.running
     by (inl h) = ap (λ (x : State). x.running) (advanced_idle s n st h)
     by (inr x) = ap (λ (y : State). y.running) (advanced_at s n x.0 st x.1) ∙ steps_running s x.0 n st
 
-advanced_by_none : (s : System) (st : State) → advanced s 0 st ≡ st
+pub advanced_by_none : (s : System) (st : State) → advanced s 0 st ≡ st
 advanced_by_none s st = by (runs_or_not st.running)
   where
     by : (st.running ≡ None) ⊎ ((t : ℕ) × (st.running ≡ Some t)) → advanced s 0 st ≡ st
     by (inl h) = advanced_idle s 0 st h
     by (inr x) = advanced_at s 0 x.0 st x.1 ∙ no_steps s x.0 st
 
-at_act_is : (s : System) (st : State) → state_at_act s st ≡ advanced s st.fuel st
+pub at_act_is : (s : System) (st : State) → state_at_act s st ≡ advanced s st.fuel st
 unfolding state_at_act advanced
 at_act_is s st = refl
 
@@ -290,31 +290,31 @@ comes_again s d n = by (runs_or_not d.running)
 
 -- ---- the law
 
-stands_on : (s : System) (d : State) (n k : ℕ) (new : State) → StepsTo s (advanced s n d) k new → new ≡ advanced s (suc n) d
+pub stands_on : (s : System) (d : State) (n k : ℕ) (new : State) → StepsTo s (advanced s n d) k new → new ≡ advanced s (suc n) d
 stands_on s d n k new h =
     sym (steps_more s k n d new (subst (λ (x : State). step s x k ≡ Step new) (advanced_at s n k d q) h.stepped)) ∙ sym (advanced_at s (suc n) k d q)
   where
     q : d.running ≡ Some k
     q = sym (advanced_running s n d) ∙ h.running
 
-act_of : (s : System) (t : ℕ) (own : Past) (st : State) (k : ℕ) (a : Act) → state_at_act s (domain_state s t own) ≡ st → Asks s st k a → next_act s t own ≡ Does a
+pub act_of : (s : System) (t : ℕ) (own : Past) (st : State) (k : ℕ) (a : Act) → state_at_act s (domain_state s t own) ≡ st → Asks s st k a → next_act s t own ≡ Does a
 unfolding next_act act_in
 act_of s t own st k a e h = ap (act_in s) e ∙ rw (h.running, h.asked, act_in) refl
 
-idle_of : (s : System) (t : ℕ) (own : Past) (st : State) → state_at_act s (domain_state s t own) ≡ st → st.running ≡ None → next_act s t own ≡ Idle
+pub idle_of : (s : System) (t : ℕ) (own : Past) (st : State) → state_at_act s (domain_state s t own) ≡ st → st.running ≡ None → next_act s t own ≡ Idle
 unfolding next_act act_in
 idle_of s t own st e h = ap (act_in s) e ∙ rw (h, act_in) refl
 
-state_after : (s : System) (t : ℕ) (own : Past) (e : Entry) → domain_state s t (e ∷ own) ≡ after_entry s (state_at_act s (domain_state s t own)) e
+pub state_after : (s : System) (t : ℕ) (own : Past) (e : Entry) → domain_state s t (e ∷ own) ≡ after_entry s (state_at_act s (domain_state s t own)) e
 unfolding domain_state
 state_after s t own e = refl
 
-come : (s : System) (t : ℕ) (own : Past) (st : State) (k : ℕ) (a : Act) → Stands s t own st → Asks s st k a → state_at_act s (domain_state s t own) ≡ st
+pub come : (s : System) (t : ℕ) (own : Past) (st : State) (k : ℕ) (a : Act) → Stands s t own st → Asks s st k a → state_at_act s (domain_state s t own) ≡ st
 come s t own st k a h q =
     let r : (advanced s h.0 (domain_state s t own)).running ≡ Some k = subst (λ (x : State). x.running ≡ Some k) h.1 q.running in
     has_come s (domain_state s t own) h.0 k a r (subst (λ (x : State). step s x k ≡ Ask a) h.1 q.asked) ∙ sym h.1
 
-rest : (s : System) (t : ℕ) (own : Past) (st : State) → Stands s t own st → st.running ≡ None → state_at_act s (domain_state s t own) ≡ st
+pub rest : (s : System) (t : ℕ) (own : Past) (st : State) → Stands s t own st → st.running ≡ None → state_at_act s (domain_state s t own) ≡ st
 rest s t own st h q =
     let r : (domain_state s t own).running ≡ None = sym (advanced_running s h.0 (domain_state s t own)) ∙ subst (λ (x : State). x.running ≡ None) h.1 q in
     at_act_is s (domain_state s t own) ∙ advanced_idle s (domain_state s t own).fuel (domain_state s t own) r ∙ sym (h.1 ∙ advanced_idle s h.0 (domain_state s t own) r)

@@ -64,7 +64,7 @@ module _ (s : System) where
 
   -- ---- throwing and methods
 
-  handler_within : (c r : ℕ) (fs : List Frame) → Fs (drop 1 fs) → Fs (drop 1 (frames_at_handler s c r fs))
+  pub handler_within : (c r : ℕ) (fs : List Frame) → Fs (drop 1 fs) → Fs (drop 1 (frames_at_handler s c r fs))
   unfolding frames_at_handler
   handler_within c r [] i = tt
   handler_within c r (f ∷ fs) i = by (handler_in s c f) (handler_within c r fs (all_drop (IsWithin s) 1 fs i))
@@ -101,7 +101,7 @@ module _ (s : System) where
       by false None = stage_within st t x Bad h
       by false (Some f) = frames_within st t x f [] h tt
 
-  finish_within : (st : State) (t : ℕ) (x : Thread) (v : Option Value) → HaveStacksWithin s st → HaveStacksWithin s (after_finish s st t x v)
+  pub finish_within : (st : State) (t : ℕ) (x : Thread) (v : Option Value) → HaveStacksWithin s st → HaveStacksWithin s (after_finish s st t x v)
   unfolding after_finish
   finish_within st t x v h = by x.waiting refl
     where
@@ -111,7 +111,7 @@ module _ (s : System) where
 
   -- ---- one step
 
-  numeric_step : (st : State) (t : ℕ) (x : Thread) (f : Frame) (fs : List Frame) (next : ℕ) (o : NumericOutcome) → HaveStacksWithin s st → Fs fs → Fs (drop 1 x.frames) → LeavesWithin (stack_limit s f) o → StepsWithin (after_numeric s st t x f fs next o)
+  pub numeric_step : (st : State) (t : ℕ) (x : Thread) (f : Frame) (fs : List Frame) (next : ℕ) (o : NumericOutcome) → HaveStacksWithin s st → Fs fs → Fs (drop 1 x.frames) → LeavesWithin (stack_limit s f) o → StepsWithin (after_numeric s st t x f fs next o)
   unfolding after_numeric ends_by_bad_code with_values stack_limit
   numeric_step st t x f fs next (numeric.Next l k) h i j d = thread_within (with_less_fuel st) t _ (fuel_within st h) (record { below = i; going = λ e. (d, i) })
   numeric_step st t x f fs next (numeric.Jump to l k) h i j d = thread_within (with_less_fuel st) t _ (fuel_within st h) (record { below = i; going = λ e. (d, i) })
@@ -123,10 +123,10 @@ module _ (s : System) where
   abbrev spent : State → Store → State
   spent st store = with_store (with_less_fuel st) store
 
-  spent_within : (st : State) (store : Store) → HaveStacksWithin s st → HaveStacksWithin s (spent st store)
+  pub spent_within : (st : State) (store : Store) → HaveStacksWithin s st → HaveStacksWithin s (spent st store)
   spent_within st store h = store_within (with_less_fuel st) store (fuel_within st h)
 
-  object_step : (st : State) (t : ℕ) (x : Thread) (o : ObjectOutcome) → HaveStacksWithin s st → Fs (drop 1 x.frames) → LeavesFramesWithin s o → StepsWithin (after_object s st t x o)
+  pub object_step : (st : State) (t : ℕ) (x : Thread) (o : ObjectOutcome) → HaveStacksWithin s st → Fs (drop 1 x.frames) → LeavesFramesWithin s o → StepsWithin (after_object s st t x o)
   unfolding after_object ends_by_bad_code
   object_step st t x (object.Next core) h j d = thread_within (spent st core.store) t _ (spent_within st core.store h) (record { below = all_drop (IsWithin s) 1 core.frames d; going = λ e. d })
   object_step st t x (object.Raise c) h j d = raise_within (with_less_fuel st) t x c (fuel_within st h) j
@@ -136,7 +136,7 @@ module _ (s : System) where
   object_step st t x object.BadCode h j d = tt
   object_step st t x object.NotMine h j d = tt
 
-  row_step : (st : State) (t : ℕ) (x : Thread) (f : Frame) (fs : List Frame) (i : Reading) → HaveStacksWithin s st → Fs x.frames → x.frames ≡ f ∷ fs → StepsWithin (row s st t x f fs i)
+  pub row_step : (st : State) (t : ℕ) (x : Thread) (f : Frame) (fs : List Frame) (i : Reading) → HaveStacksWithin s st → Fs x.frames → x.frames ≡ f ∷ fs → StepsWithin (row s st t x f fs i)
   unfolding row core_of
   row_step st t x f fs i h k e = by (numeric_row s (class_of_frame s f) (stack_limit s f) i.instr f.locals f.stack.values) refl
       (numeric_within (stack_limit s f) s (class_of_frame s f) i.instr f.locals f.stack.values all.0)
@@ -154,7 +154,7 @@ module _ (s : System) where
       by (numeric.Raise c) w d = rw w (numeric_step st t x f fs i.next (numeric.Raise c) h all.1 below d)
       by numeric.BadCode w d = rw w (numeric_step st t x f fs i.next numeric.BadCode h all.1 below d)
 
-  frames_step : (st : State) (t : ℕ) (x : Thread) (fs : List Frame) → HaveStacksWithin s st → Fs x.frames → x.frames ≡ fs → StepsWithin (framed_step s st t x fs)
+  pub frames_step : (st : State) (t : ℕ) (x : Thread) (fs : List Frame) → HaveStacksWithin s st → Fs x.frames → x.frames ≡ fs → StepsWithin (framed_step s st t x fs)
   unfolding framed_step ends_by_bad_code
   frames_step st t x [] h k e = tt
   frames_step st t x (f ∷ fs) h k e = by (instruction_at (code_bytes s f) f.pc)
@@ -170,7 +170,7 @@ module _ (s : System) where
       by None = tt
       by (Some i) = fueled i (st.fuel == 0)
 
-  staged_step : (st : State) (t : ℕ) (x : Thread) (g : Stage) → HaveStacksWithin s st → HasStacksWithin s x → x.stage ≡ g → StepsWithin (stage_step s st t x g)
+  pub staged_step : (st : State) (t : ℕ) (x : Thread) (g : Stage) → HaveStacksWithin s st → HasStacksWithin s x → x.stage ≡ g → StepsWithin (stage_step s st t x g)
   unfolding stage_step
   staged_step st t x Going h k e = frames_step st t x x.frames h (k.going e) refl
   staged_step st t x (Returned v) h k e = tt
@@ -186,7 +186,7 @@ module _ (s : System) where
       by None e = tt
       by (Some x) e = staged_step st t x x.stage h (all_get (HasStacksWithin s) st.threads t x e h) refl
 
-  steps_within : (t n : ℕ) (st : State) → HaveStacksWithin s st → HaveStacksWithin s (after_steps s t n st)
+  pub steps_within : (t n : ℕ) (st : State) → HaveStacksWithin s st → HaveStacksWithin s (after_steps s t n st)
   unfolding after_steps
   steps_within t zero st h = h
   steps_within t (suc n) st h = by (step s st t) (step_within st t h) (λ new k. steps_within t n new k)

@@ -12,8 +12,9 @@ use std::alloc::{AllocError, Global};
 // The most that a number counts.
 const MOST: usize = u32::MAX as usize;
 
+/// Whether the two have one name and one descriptor.
 #[tactic(auto, unfolding(program_model::specs::Lookup::same_selector))]
-fn same_selector(selector: &Selector, other: &Selector) -> bool
+pub fn same_selector(selector: &Selector, other: &Selector) -> bool
     ensures { result ≡ same_selector selector.now other.now }
 {
     selector.name.as_slice() == other.name.as_slice()

@@ -1,6 +1,7 @@
 //! What a domain has at the start.
 #![tactic(auto)]
 
+mod arguments;
 mod classes;
 mod cores;
 mod found;
@@ -8,5 +9,6 @@ mod groups;
 mod methods;
 mod selectors;
 
+pub use arguments::start_arguments;
 pub use cores::first_core;
 pub use methods::first_methods;
