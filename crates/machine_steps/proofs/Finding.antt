@@ -14,7 +14,7 @@ use Rattle.program_model.specs.Lookup.{method_at}
 use Rattle.machine_model.specs.Conditions.{IsFrameOf}
 use Rattle.machine_model.specs.State.{Core, code_bytes, code_of}
 use Rattle.interp_core.proofs.Leavings.{head_frame}
-use Rattle.machine_steps.specs.Stepping.{AreInstrsOf, AreListed, Finds, IsAt}
+use Rattle.machine_steps.specs.Stepping.{AreInstrsOf, AreListed, Finds, IsAt, IsOfPc}
 
 pub first_frame : (fs : List Frame) (f : Frame) → Some f ≡ slice_get fs 0 → fs ≡ f ∷ drop 1 fs
 first_frame [] f e = cc
@@ -72,6 +72,20 @@ module _ (s : System) (core : Core) (h : All (IsFrameOf s) core.frames) where
           let some : code_of s f.method ≡ Some c = ap (λ (o : Option Method). option_and_then (λ (x : Method). x.code) o) m ∙ q in
           (c, (q, ap (λ (o : Option Code). elim o as (λ _. List ℕ) [ None ↦ [] | Some c ↦ c.code ]) some))
 
+  -- an instruction of that pc
+  pub of_pc : (f : Frame) (callers : List Frame) (x : Method) (i : Instr) → core.frames ≡ f ∷ callers → AreListed s → method_at s f.method ≡ Some x → IsOfPc x.instrs f.pc i → IsAt s core i
+  of_pc f callers x i e listed m is =
+      let c = its_code f callers x e m in
+      let read : option_map (λ (r : Reading). r.instr) (instruction_at (code_bytes s f) f.pc) ≡ Some i =
+      ap (λ (k : List ℕ). option_map (λ (r : Reading). r.instr) (instruction_at k f.pc)) c.1.1
+      ∙ ap (λ (n : ℕ). option_map (λ (r : Reading). r.instr) (instruction_at c.0.code n)) (sym is.1)
+      ∙ listed f.method x c.0 i m c.1.0 is.0 in
+      by (instruction_at (code_bytes s f) f.pc) refl read
+    where
+      by : (o : Option Reading) → instruction_at (code_bytes s f) f.pc ≡ o → option_map (λ (r : Reading). r.instr) o ≡ Some i → IsAt s core i
+      by None z w = cc
+      by (Some r) z w = let same : r.instr ≡ i = cc in record { frame = f; callers = callers; reading = r; running = e; read = z; instr = same }
+
   -- what the search finds
   pub finds_is : (f : Frame) (callers : List Frame) (x : Method) (o : Option Instr) → core.frames ≡ f ∷ callers → AreListed s → AreInstrsOf s core → method_at s f.method ≡ Some x → o ≡ find (λ i. i.pc == f.pc) x.instrs → Finds s core o
   finds_is f callers x None e listed at m q = λ g gs w. none g gs w (instruction_at (code_bytes s g) g.pc) refl
@@ -91,13 +105,4 @@ module _ (s : System) (core : Core) (h : All (IsFrameOf s) core.frames) where
       let is = found (λ i. i.pc == f.pc) x.instrs i (sym q) in
       let passes : (i.pc == f.pc) ≡ true = is.1 in
       let place : i.pc ≡ f.pc = grind (arith, nat_tests, passes) in
-      let c = its_code f callers x e m in
-      let read : option_map (λ (r : Reading). r.instr) (instruction_at (code_bytes s f) f.pc) ≡ Some i =
-      ap (λ (k : List ℕ). option_map (λ (r : Reading). r.instr) (instruction_at k f.pc)) c.1.1
-      ∙ ap (λ (n : ℕ). option_map (λ (r : Reading). r.instr) (instruction_at c.0.code n)) (sym place)
-      ∙ listed f.method x c.0 i m c.1.0 is.0 in
-      by (instruction_at (code_bytes s f) f.pc) refl read
-    where
-      by : (o : Option Reading) → instruction_at (code_bytes s f) f.pc ≡ o → option_map (λ (r : Reading). r.instr) o ≡ Some i → IsAt s core i
-      by None z w = cc
-      by (Some r) z w = let same : r.instr ≡ i = cc in record { frame = f; callers = callers; reading = r; running = e; read = z; instr = same }
+      of_pc f callers x i e listed m (is.0, place)

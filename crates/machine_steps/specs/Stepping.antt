@@ -31,6 +31,10 @@ AreInstrsOf s core = (f : Frame) (callers : List Frame) (r : Reading) → core.f
 abbrev pub AreListed : System → Type 0
 AreListed s = (m : ℕ) (x : Method) (c : Code) (i : Instr) → method_at s m ≡ Some x → x.code ≡ Some c → Contains x.instrs i → option_map (λ r. r.instr) (instruction_at c.code i.pc) ≡ Some i
 
+-- the instruction is one of these, with that pc
+abbrev pub IsOfPc : List Instr → ℕ → Instr → Type 0
+IsOfPc instrs pc i = Contains instrs i × (i.pc ≡ pc)
+
 -- the instruction is read at the running frame's pc
 pub record IsAt (s : System) (core : Core) (i : Instr) : Type 0 where
   pub frame : Frame

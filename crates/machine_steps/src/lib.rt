@@ -6,4 +6,5 @@ mod numbers;
 mod stepping;
 mod throwing;
 
+pub use instructions::next_instr;
 pub use stepping::{Stepped, step_frames};
