@@ -1,0 +1,11 @@
+pub mod Reaching
+pub mod Goings
+pub mod Stopping
+pub mod AtWork
+pub mod Finishing
+pub mod Settlings
+pub mod Arriving
+pub mod Starts
+pub mod Arms
+pub mod Takes
+pub mod Lives

@@ -1,0 +1,21 @@
+use Rattle.std.proofs.Common.{◌∙◌, None, false, refl}
+use Rattle.machine_model.specs.AfterEntry.{after_result}
+use Rattle.machine_model.specs.MachineThreads.{core_of, with_less_fuel}
+use Rattle.domain_machine.specs.declared.held.Held.{Held}
+use Rattle.domain_machine.specs.Entering.{held_state}
+use Rattle.domain_machine.specs.Works.{thread_of}
+use Rattle.domain_machine.proofs.Arms.{exact, same_thread}
+use Rattle.domain_machine.proofs.Arriving.{thread_held}
+use Rattle.domain_machine.proofs.entries.behind_in.Goals as goal
+
+pub go_on-requires-clause-core : goal.go_on-requires-clause-core
+unfolding core_of
+go_on-requires-clause-core c = c.requires.core (thread_of c.take_thread-thread.result) (thread_held c.args.held.now c.args.place c.take_thread-thread.result c.take_thread-thread.ensures.thread)
+
+pub returns : goal.returns
+unfolding with_less_fuel
+returns c x h =
+    let old = c.args.held.now in let k = c.args.place in let t = c.take_thread-thread.result in let u = c.go_on.new.thread in
+    let new : Held = record { core = c.go_on.new.core; threads = c.put_thread.new.threads; running = old.running; fuel = c.spend.new.fuel } in
+    exact old new (with_less_fuel (held_state old)) k t u c.take_thread-thread.ensures.thread (record { threads = refl; store = refl }) (c.put_thread.ensures ∙ c.take_thread-thread.ensures.others u) c.spend.ensures
+    (λ st t x. after_result c.args.system.now st t x None) false c.go_on.ensures x (same_thread old k t x c.take_thread-thread.ensures.thread h) refl refl
