@@ -15,7 +15,7 @@ use Rattle.jx_model.specs.Tables.{ThreadRecord}
 use Rattle.table_threads.specs.Changes.{changed_at}
 use Rattle.table_threads.specs.ThreadChanges.{idle_record, own_added, own_changed}
 use Rattle.domain_table.specs.declared.domains.Domains.TheInside.{Inside}
-use Rattle.domain_table.specs.DomainLists.{DomainsState, ThreadsState, HasThread, IsLive, is_running, running_in, running_of}
+use Rattle.domain_table.specs.DomainLists.{DomainsState, ThreadsState, HasThread, IsLive, live_threads_in, of_live}
 use Rattle.domain_table.specs.Inner.{HasRoom, IsDomains, domains_state}
 
 -- ---- numbers
@@ -188,24 +188,29 @@ thread_list x y d t e inv h = by (numbered y.threads d) refl h
     by None q h = absurd cc
     by (Some records) q h = inner records q (slice_get records t) refl h
 
--- ---- running threads
+-- ---- live domains
 
 -- a domain that has not ended has its list
 pub running_list : (x : Inside) (y : DomainsState) (d : ℕ) (domain : DomainState) → domains_state x ≡ y → IsDomains x → numbered y.domains d ≡ Some domain → domain.ended ≡ None → HasList x d
 running_list x y d domain e inv q h = live_list x y d e inv (subst (λ (o : Option DomainState). IsSomeAnd o (λ z. z.ended ≡ None)) (sym q) h)
 
--- its running thread is that of its list
-pub running_thread : (x : Inside) (y : DomainsState) (d : ℕ) (domain : DomainState) (room : ThreadsState) → domains_state x ≡ y → HasList x d → numbered y.domains d ≡ Some domain →
-    domain.ended ≡ None → slice_get x.threads.items (d - 1) ≡ Some room → running_in y d ≡ position is_running room.records
-running_thread x y d domain room e list q h there =
+-- its threads are those of its list
+pub live_records : (x : Inside) (y : DomainsState) (d : ℕ) (domain : DomainState) (room : ThreadsState) → domains_state x ≡ y → HasList x d → numbered y.domains d ≡ Some domain →
+    domain.ended ≡ None → slice_get x.threads.items (d - 1) ≡ Some room → live_threads_in y d ≡ Some room.records
+live_records x y d domain room e list q h there =
     let records : numbered y.threads d ≡ Some room.records =
     numbered_place y.threads d list.from_one
     ∙ sym (ap (λ (z : DomainsState). slice_get z.threads (d - 1)) e)
     ∙ shown_get (length x.domains.items) x.threads.items (d - 1) room list.made there
     in
-    ap (option_and_then (λ (z : DomainState). running_of z.ended (numbered y.threads d))) q
-    ∙ ap (λ (o : Option Reason). running_of o (numbered y.threads d)) h
-    ∙ ap (option_and_then (λ (rs : List ThreadRecord). position is_running rs)) records
+    ap (option_and_then (λ (z : DomainState). of_live z.ended (numbered y.threads d))) q
+    ∙ ap (λ (o : Option Reason). of_live o (numbered y.threads d)) h
+    ∙ records
+
+-- one that has ended has none
+pub no_live_records : (y : DomainsState) (d : ℕ) (domain : DomainState) (why : Reason) → numbered y.domains d ≡ Some domain → domain.ended ≡ Some why → live_threads_in y d ≡ None
+no_live_records y d domain why q h =
+    ap (option_and_then (λ (z : DomainState). of_live z.ended (numbered y.threads d))) q ∙ ap (λ (o : Option Reason). of_live o (numbered y.threads d)) h
 
 -- the first place of an item is that of what f gives of it
 pub position_map : {A B : Type 0} (f : A → B) (p : B → Bool) (xs : List A) → position (λ x. p (f x)) xs ≡ position p (map f xs)

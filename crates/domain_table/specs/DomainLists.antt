@@ -11,6 +11,7 @@ use Rattle.jx_base.specs.declared.states.ThreadState.{ThreadState}
 use Rattle.jx_base.specs.declared.states.ThreadState.TheVariants as thread
 use Rattle.jx_base.specs.Basics.{numbered}
 use Rattle.jx_model.specs.Tables.{ThreadRecord}
+use Rattle.jx_model.specs.Permits.{is_yielded}
 use Rattle.jx_model.specs.Threads.{is_running_state}
 use Rattle.domain_table.specs.declared.rows.ThreadRow.{ThreadRow}
 use Rattle.table_threads.specs.ThreadChanges.{first_records, own_added}
@@ -38,6 +39,9 @@ with_state state old = record old { state = state; serves = served_in state old.
 
 abbrev pub is_running : ThreadRecord → Bool
 is_running r = is_running_state r.state
+
+abbrev pub has_yielded : ThreadRecord → Bool
+has_yielded r = is_yielded r.state
 
 -- ---- domains
 
@@ -84,10 +88,19 @@ HasThread x d t = IsSome (thread_in x d t)
 abbrev pub IsThreadCount : ℕ → Type 0
 IsThreadCount n = (1 ≤ n) × (n ≤ 8)
 
--- the least running thread of a domain, where it lives
-abbrev pub running_of : Option Reason → Option (List ThreadRecord) → Option ℕ
-running_of None records = option_and_then (λ rs. position is_running rs) records
-running_of (Some reason) records = None
+-- what there is of a domain, where it lives
+abbrev pub of_live : {A : Type 0} → Option Reason → Option A → Option A
+of_live None o = o
+of_live (Some reason) o = None
 
+-- the threads of a domain, where it lives
+abbrev pub live_threads_in : DomainsState → ℕ → Option (List ThreadRecord)
+live_threads_in x d = option_and_then (λ domain. of_live domain.ended (threads_in x d)) (numbered x.domains d)
+
+-- the least running thread of a domain, where it lives
 abbrev pub running_in : DomainsState → ℕ → Option ℕ
-running_in x d = option_and_then (λ domain. running_of domain.ended (threads_in x d)) (numbered x.domains d)
+running_in x d = option_and_then (λ records. position is_running records) (live_threads_in x d)
+
+-- the least thread of a domain that has yielded, where it lives
+abbrev pub yielded_in : DomainsState → ℕ → Option ℕ
+yielded_in x d = option_and_then (λ records. position has_yielded records) (live_threads_in x d)

@@ -1,9 +1,9 @@
 //! The table of domains.
-ghost use Rattle.std.specs.Prelude.{◌≡◌, ◌+◌, ◌++◌, ◌∷◌, ◌<◌, ◌≤◌, ◌-◌, [], Some, None, IfOk, length, nat_lt, option_map, if◌then◌else◌};
+ghost use Rattle.std.specs.Prelude.{◌≡◌, ◌+◌, ◌++◌, ◌∷◌, ◌<◌, ◌≤◌, ◌-◌, [], Some, None, IfOk, IfSome, length, nat_lt, option_map, if◌then◌else◌};
 ghost use Rattle.std.specs.Option.{option_and_then, option_map};
 ghost use Rattle.domain_table.specs.DomainLists.{HasThread, IsLive, IsThreadCount};
-ghost use Rattle.domain_table.specs.DomainLists.{record_of, ended, new_domain, running_in, thread_in};
-ghost use Rattle.domain_table.specs.DomainLists.{with_domain, with_idle, with_state};
+ghost use Rattle.domain_table.specs.DomainLists.{record_of, ended, live_threads_in, new_domain, running_in, thread_in};
+ghost use Rattle.domain_table.specs.DomainLists.{with_domain, with_idle, with_state, yielded_in};
 ghost use Rattle.jx_base.specs.Basics.{numbered};
 ghost use Rattle.program_model.specs.Limits.{domain_limit};
 ghost use Rattle.table_threads.specs.Changes.{changed_at};
@@ -63,9 +63,17 @@ impl Domains {
 
     /// How many domains were made.
     pub fn made(&self) -> u32
-        ensures { result ≡ length self.now.domains }
+        ensures number { result ≡ length self.now.domains }
+        ensures few { result ≤ 64 }
     {
         self.domains.len() as u32
+    }
+
+    /// Whether one more can be made.
+    pub fn has_room(&self) -> bool
+        ensures { result ≡ nat_lt (length self.now.domains) self.now.limit }
+    {
+        self.made() < self.limit
     }
 
     /// Makes a live domain, whose first thread runs, and gives its number. `None` where all that there
@@ -108,14 +116,29 @@ impl Domains {
         self.domains[domain.0 as usize - 1].ended = Some(reason);
     }
 
+    // The threads of a live domain.
+    fn live_threads(&self, domain: DomainId) -> Option<&Threads>
+        ensures threads { option_map (λ t. t.now.records) result ≡ live_threads_in self.now domain.0 }
+        ensures few { IfSome result (λ t. length t.now.records ≤ 2049) }
+    {
+        match self.state(domain)?.ended {
+            None => Some(&self.threads[domain.0 as usize - 1]),
+            Some(_) => None,
+        }
+    }
+
     /// The thread of a live domain that runs. `None` where none does.
     pub fn running(&self, domain: DomainId) -> Option<ThreadId>
         ensures { option_map (λ t. t.0) result ≡ running_in self.now domain.0 }
     {
-        match self.state(domain)?.ended {
-            None => Some(ThreadId(self.threads[domain.0 as usize - 1].running()? as u32)),
-            Some(_) => None,
-        }
+        Some(ThreadId(self.live_threads(domain)?.running()? as u32))
+    }
+
+    /// The least thread of a live domain that has yielded. `None` where none has.
+    pub fn yielded(&self, domain: DomainId) -> Option<ThreadId>
+        ensures { option_map (λ t. t.0) result ≡ yielded_in self.now domain.0 }
+    {
+        Some(ThreadId(self.live_threads(domain)?.yielded()? as u32))
     }
 
     /// Adds so many idle threads of a new service to a live domain.

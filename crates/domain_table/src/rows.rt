@@ -1,6 +1,7 @@
 //! What is kept of a thread.
 ghost use Rattle.std.specs.Prelude.{◌≡◌};
 ghost use Rattle.domain_table.specs.DomainLists.{record_of, with_state};
+ghost use Rattle.jx_model.specs.Permits as Permits;
 ghost use Rattle.jx_model.specs.Threads as Spec;
 ghost use Rattle.table_threads.specs.ThreadChanges.{idle_record};
 
@@ -50,5 +51,12 @@ impl ThreadRow {
             ThreadState::Running | ThreadState::Serving(_) => true,
             _ => false,
         }
+    }
+
+    #[tactic(auto, unfolding(jx_model::specs::Permits::is_yielded))]
+    pub fn has_yielded(&self) -> bool
+        ensures { result ≡ Permits.is_yielded self.now.state }
+    {
+        matches!(self.state, ThreadState::Yielded)
     }
 }

@@ -2,7 +2,7 @@
 ghost use Rattle.std.specs.Prelude.{◌≡◌, ◌+◌, ◌++◌, ◌<◌, ◌≤◌, [], IfOk, length, map, replicate, option_map, slice_get};
 ghost use Rattle.std.specs.List.{position};
 ghost use Rattle.std.specs.Option.{option_map};
-ghost use Rattle.domain_table.specs.DomainLists.{is_running, record_of, with_state};
+ghost use Rattle.domain_table.specs.DomainLists.{has_yielded, is_running, record_of, with_state};
 ghost use Rattle.table_threads.specs.Changes.{changed_at};
 ghost use Rattle.table_threads.specs.ThreadChanges.{first_records, idle_record};
 
@@ -15,6 +15,12 @@ fn first_running(rows: &[ThreadRow]) -> Option<usize>
     ensures { result ≡ position (λ row. is_running (record_of row)) rows.now }
 {
     rows.iter().position(|row| row.is_running())
+}
+
+fn first_yielded(rows: &[ThreadRow]) -> Option<usize>
+    ensures { result ≡ position (λ row. has_yielded (record_of row)) rows.now }
+{
+    rows.iter().position(|row| row.has_yielded())
 }
 
 /// The threads of a domain by their numbers, with room for so many, which is reserved.
@@ -82,6 +88,13 @@ impl Threads {
         ensures { result ≡ position is_running self.now.records }
     {
         first_running(self.rows.as_slice())
+    }
+
+    /// The least thread that has yielded.
+    pub fn yielded(&self) -> Option<usize>
+        ensures { result ≡ position has_yielded self.now.records }
+    {
+        first_yielded(self.rows.as_slice())
     }
 
     pub fn set_state(&mut self, thread: u32, state: ThreadState)

@@ -1,3 +1,4 @@
+mod HeapSizes
 mod Lies
 mod Apart
 mod Cuts
