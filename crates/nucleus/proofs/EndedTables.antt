@@ -1,0 +1,159 @@
+-- The tables after the end of a domain.
+use Rattle.std.proofs.Common.{◌≡◌, refl, sym, ◌∙◌, ap, subst, ℕ, ◌+◌, ◌<◌, ◌≤◌, Bool, true, false, ◌||◌, List, map, Option, Some, None, is_some, arith, get_or, if◌then◌else◌}
+use Rattle.std.specs.Prelude.{IsSome, IsSomeAnd}
+use Rattle.std.specs.List.{range_with_len}
+use Rattle.std.specs.Option.{option_map, unwrap_or}
+use Rattle.std.proofs.lemmas.Bool.Decides.{nat_tests}
+use Rattle.std.proofs.lemmas.Option.{get_or_from_slice_get}
+use Rattle.jx_base.specs.declared.act.Act.{Act}
+use Rattle.jx_base.specs.declared.act.Act.TheVariants as act
+use Rattle.jx_base.specs.declared.act.Entry.{Entry}
+use Rattle.jx_base.specs.declared.act.Reason.{Reason}
+use Rattle.jx_base.specs.declared.act.Reply.TheVariants as reply
+use Rattle.jx_base.specs.declared.program.System.{System}
+use Rattle.jx_base.specs.declared.states.DomainState.{DomainState}
+use Rattle.jx_base.specs.Basics.{numbered}
+use Rattle.program_model.specs.Limits.{granule_limit}
+use Rattle.jx_laws.proofs.Runs.{HeapOf, owner_lies, owners_within}
+use Rattle.jx_model.proofs.Serving.{not_ended_yet}
+use Rattle.jx_model.specs.Domains.{is_birth, is_live, makes_domain}
+use Rattle.jx_model.specs.Granules.{Run, heap_granules, heap_run, is_used_granule, lies_in}
+use Rattle.jx_model.specs.Legal.{IsNext}
+use Rattle.jx_model.specs.Permits.{is_create, is_create_entry, is_ending, is_halt, zero_may}
+use Rattle.jx_model.specs.Replies.{reply_to}
+use Rattle.jx_model.specs.Tables.{Kept, StandsFor, domain_record, granule_flags}
+use Rattle.domain_table.specs.DomainLists as Lists
+use Rattle.extent_pool.specs.Taken.{AreTaken, is_taken}
+use Rattle.table_reads.proofs.ReplyReads.{heap_run_by_record}
+use Rattle.table_steps.proofs.EndSteps.{stands_after_end, stands_after_exit}
+use Rattle.table_steps.specs.Steps.{after_end, heap_in, heap_of, with_entry}
+use Rattle.table_threads.proofs.Actors.{acts_live, live_made}
+use Rattle.table_threads.proofs.Records.{get_range}
+use Rattle.nucleus.proofs.DomainReads.{domain_there}
+use Rattle.nucleus.proofs.Entered.{entered, kept_put}
+use Rattle.nucleus.proofs.RunsTaken.{run_freed}
+use Rattle.nucleus.specs.Ends.{IsEndingAct, with_ended}
+use Rattle.nucleus.specs.Entering.{done_entry}
+use Rattle.nucleus.specs.Inner.{IsOf, IsPermittedIn, kept_in, past_in, state_of, with_put}
+use Rattle.nucleus.specs.Stepping.{IsEntered}
+use Rattle.nucleus.specs.declared.tables.Tables.{Tables}
+
+-- a granule between a run's ends lies in it
+lies : (g p n : ℕ) → p ≤ g → g < p + n → lies_in g (p, n) ≡ true
+unfolding lies_in
+lies g p n l u = grind (arith, nat_tests)
+
+module _ (s : System) (x : Tables) (h : IsOf s x) (d : ℕ) (l : is_live (past_in x) d ≡ true) where
+  -- the record of a live domain
+  pub live_there : numbered x.domains.domains d ≡ Some (domain_record s (past_in x) d)
+  live_there = domain_there s x h d (live_made (past_in x) d l)
+
+  -- so it is found
+  pub there : (o : Option DomainState) → o ≡ numbered x.domains.domains d → IsSome o
+  there o q = ap is_some (q ∙ live_there)
+
+  -- the table says that it lives
+  pub live_record : Lists.IsLive x.domains d
+  unfolding domain_record
+  live_record = subst (λ (o : Option DomainState). IsSomeAnd o (λ domain. domain.ended ≡ None)) (sym live_there) (not_ended_yet (past_in x) d l)
+
+  -- the granules of its heap by its record are those of the past
+  heap_is : heap_in s x.domains.domains d ≡ heap_run s (past_in x) d
+  heap_is =
+      ap (λ (o : Option DomainState). unwrap_or (option_map (heap_of s) o) (0, 0)) live_there
+      ∙ sym (heap_run_by_record s (past_in x) d h.stands.admitted (live_made (past_in x) d l).low (live_made (past_in x) d l).high)
+
+  -- a used granule of the machine is taken
+  used_taken : (g : ℕ) → g < granule_limit s → is_used_granule s (past_in x) g ≡ true → is_taken x.pool g ≡ true
+  unfolding granule_flags
+  used_taken g u q =
+      ap (λ (flags : List Bool). get_or flags g false) h.stands.taken
+      ∙ get_or_from_slice_get (map (is_used_granule s (past_in x)) (range_with_len 0 (granule_limit s))) g (is_used_granule s (past_in x) (0 + g)) false
+      (get_range (is_used_granule s (past_in x)) 0 (granule_limit s) g u)
+      ∙ ap (is_used_granule s (past_in x)) (omega arith) ∙ q
+
+  -- the granules of its heap are taken
+  pub heap_taken : AreTaken x.pool (heap_in s x.domains.domains d).0 (heap_in s x.domains.domains d).1
+  unfolding is_used_granule
+  heap_taken g a b =
+      let run : Run = heap_run s (past_in x) d in
+      let low : run.0 ≤ g = subst (λ (r : Run). r.0 ≤ g) heap_is a in
+      let high : g < run.0 + run.1 = subst (λ (r : Run). g < r.0 + r.1) heap_is b in
+      used_taken g (omega (arith, high, owners_within s (past_in x) h.stands.admitted (HeapOf d) l))
+      (owner_lies s (past_in x) (HeapOf d) g l (lies g run.0 run.1 low high))
+
+  -- the run that is given back is that of its heap
+  pub run_given : (item : DomainState) (n : ℕ) → numbered x.domains.domains d ≡ Some item → n ≡ heap_granules s item.template → heap_in s x.domains.domains d ≡ (item.at, n)
+  run_given item n q e =
+      ap (λ (o : Option DomainState). unwrap_or (option_map (heap_of s) o) (0, 0)) q
+      ∙ ap (λ (k : ℕ). let run : Run = (item.at, k) in run) (sym e)
+
+  -- so it is taken
+  pub given_taken : (item : DomainState) (n : ℕ) → numbered x.domains.domains d ≡ Some item → n ≡ heap_granules s item.template → AreTaken x.pool item.at n
+  given_taken item n q e = subst (λ (run : Run). AreTaken x.pool run.0 run.1) (run_given item n q e) heap_taken
+
+-- ---- the entry that ends a domain
+
+-- an act that ends its domain is of a live one
+pub ends_live : (s : System) (x : Tables) (d t : ℕ) (a : Act) (why : Reason) → IsPermittedIn s x d t a → IsEndingAct a why → is_live (past_in x) d ≡ true
+unfolding is_halt zero_may
+ends_live s x d t (act.Exit code) why h p = acts_live s (past_in x) d t (act.Exit code) refl refl h.thread
+ends_live s x d t (act.End r) why h p = acts_live s (past_in x) d t (act.End r) refl refl h.thread
+ends_live s x d t _ why h p = absurd p
+
+-- what an entry that ends its domain is
+record IsEndEntry (s : System) (x : Tables) (e : Entry) (why : Reason) : Type 0 where
+  pub reply : e.reply ≡ reply_to s (past_in x) e.domain.0 e.act
+  pub going : is_ending e.act ≡ false
+  pub create : is_create_entry e ≡ false
+  pub birth : is_birth e ≡ false
+  pub stands : StandsFor s (after_end s (kept_in x) e e.domain.0 why)
+
+-- an exit or an end is one
+end_entry : (s : System) (x : Tables) (d t : ℕ) (a : Act) (why : Reason) → IsPermittedIn s x d t a → IsEndingAct a why → IsEndEntry s x (done_entry d t a) why
+unfolding reply_to is_ending is_create_entry is_create is_birth makes_domain
+end_entry s x d t (act.Exit code) why h p =
+    let e : Entry = done_entry d t (act.Exit code) in
+    let next : IsNext s (past_in x) e = record { thread = h.thread; well_made = h.may_come.well_made; reply = refl } in
+    record {
+      reply = refl;
+      going = refl;
+      create = refl;
+      birth = refl;
+      stands = subst (λ (r : Reason). StandsFor s (after_end s (kept_in x) e d r)) (sym p) (stands_after_exit s (kept_in x) d t code reply.Done h.tables.stands next);
+    }
+end_entry s x d t (act.End r) why h p =
+    let e : Entry = done_entry d t (act.End r) in
+    let next : IsNext s (past_in x) e = record { thread = h.thread; well_made = h.may_come.well_made; reply = refl } in
+    record {
+      reply = refl;
+      going = refl;
+      create = refl;
+      birth = refl;
+      stands = subst (λ (r : Reason). StandsFor s (after_end s (kept_in x) e d r)) (sym p) (stands_after_end s (kept_in x) d t r reply.Done h.tables.stands next);
+    }
+end_entry s x d t _ why h p = absurd p
+
+-- what is kept of the tables is what is kept after the end
+kept_ended : (s : System) (x : Tables) (e : Entry) (d : ℕ) (why : Reason) → is_ending e.act ≡ false → is_create_entry e ≡ false → kept_in (with_put (with_ended s x d why) e) ≡ after_end s (kept_in x) e d why
+kept_ended s x e d why g c =
+    let y : Tables = with_ended s x d why in
+    kept_put x y e (ap (λ (b : Bool). b || x.over) (sym g)) (count (is_create_entry e) c) refl
+    ∙ ap (λ (taken : List Bool). let k : Kept = record (with_entry (kept_in x) e) { domains = y.domains.domains; threads = x.domains.threads; taken = taken } in k)
+    (run_freed x.pool (heap_in s x.domains.domains d))
+  where
+    count : (b : Bool) → b ≡ false → x.creates ≡ x.creates + (if b then 1 else 0)
+    count false q = omega arith
+    count true q = cc
+
+-- the tables with that entry are those of the past with it
+end_put : (s : System) (x : Tables) (d t : ℕ) (a : Act) (why : Reason) → IsPermittedIn s x d t a → IsEndEntry s x (done_entry d t a) why →
+    IsEntered s (state_of x) (state_of (with_put (with_ended s x d why) (done_entry d t a))) (done_entry d t a) × (is_birth (done_entry d t a) ≡ false)
+end_put s x d t a why h p =
+    (entered s x (with_ended s x d why) d t a reply.Done h p.reply refl refl refl (subst (StandsFor s) (sym (kept_ended s x (done_entry d t a) d why p.going p.create)) p.stands), p.birth)
+
+-- an exit or an end
+pub end_entered : (s : System) (x y : Tables) (d t : ℕ) (a : Act) (why : Reason) → IsPermittedIn s x d t a → IsEndingAct a why → y ≡ with_put (with_ended s x d why) (done_entry d t a) →
+    IsEntered s (state_of x) (state_of y) (done_entry d t a) × (is_birth (done_entry d t a) ≡ false)
+end_entered s x y d t a why h p q =
+    subst (λ (z : Tables). IsEntered s (state_of x) (state_of z) (done_entry d t a) × (is_birth (done_entry d t a) ≡ false)) (sym q) (end_put s x d t a why h (end_entry s x d t a why h p))

@@ -1,0 +1,10 @@
+mod DomainReads
+mod Permitted
+mod Room
+mod Entered
+mod ThreadsMoved
+mod RunsTaken
+mod NewDomains
+mod EnteredActs
+mod EndedTables
+mod OpenTables

@@ -1,0 +1,77 @@
+-- The tables before the first entry, and the templates that are created at the start.
+use Rattle.std.proofs.Common.{◌≡◌, sym, ◌∙◌, ap, subst, ℕ, ◌+◌, Bool, true, false, cond, List, [], ◌∷◌, ◌++◌, filter, replicate, reverse, Some, arith, add-one, slice_get}
+use Rattle.std.specs.List.{range_with_len}
+use Rattle.std.proofs.lemmas.List.{append-nil}
+use Rattle.std.proofs.lemmas.List.Elements.{filter-append}
+use Rattle.jx_base.specs.declared.program.System.{System}
+use Rattle.jx_base.specs.declared.program.Template.{Template}
+use Rattle.jx_base.specs.Basics.{passes}
+use Rattle.jx_base.proofs.BasicLaws.{ap2, ap3}
+use Rattle.program_model.specs.Limits.{domain_limit, granule_limit, journal_limit}
+use Rattle.program_model.specs.Plans.{IsPlanInRange}
+use Rattle.jx_model.specs.Journal.{words_of}
+use Rattle.jx_model.specs.Permits.{boot_templates, is_boot_template}
+use Rattle.jx_model.specs.Tables.{Kept, StandsFor}
+use Rattle.journal.specs.Journals.{JournalState}
+use Rattle.domain_table.specs.DomainLists.{DomainsState}
+use Rattle.table_steps.proofs.FirstKept.{stands_at_start}
+use Rattle.table_steps.specs.Steps.{first_kept}
+use Rattle.table_threads.proofs.Records.{range_more}
+use Rattle.nucleus.specs.Inner.{IsOf, kept_in}
+use Rattle.nucleus.specs.declared.tables.Tables.{Tables}
+
+-- ---- the templates that are created at the start
+
+-- those up to one place more
+boots_more : (s : System) (i : ℕ) → filter (is_boot_template s) (range_with_len 0 (i + 1)) ≡ filter (is_boot_template s) (range_with_len 0 i) ++ cond (is_boot_template s i) (i ∷ []) []
+boots_more s i =
+    ap (filter (is_boot_template s)) (ap (range_with_len 0) (add-one i) ∙ range_more 0 i ∙ ap (λ (k : ℕ). range_with_len 0 i ++ k ∷ []) (omega arith))
+    ∙ filter-append (is_boot_template s) (range_with_len 0 i) (i ∷ [])
+
+-- one that is created
+pub boots_with : (s : System) (i : ℕ) (t : Template) → slice_get s.plan.templates i ≡ Some t → t.boot ≡ true → filter (is_boot_template s) (range_with_len 0 (i + 1)) ≡ filter (is_boot_template s) (range_with_len 0 i) ++ i ∷ []
+unfolding is_boot_template passes
+boots_with s i t q b =
+    boots_more s i
+    ∙ ap (λ (b : Bool). filter (is_boot_template s) (range_with_len 0 i) ++ cond b (i ∷ []) []) (ap (passes (λ (x : Template). x.boot)) q ∙ b)
+
+-- one that isn't
+pub boots_without : (s : System) (i : ℕ) (t : Template) → slice_get s.plan.templates i ≡ Some t → t.boot ≡ false → filter (is_boot_template s) (range_with_len 0 (i + 1)) ≡ filter (is_boot_template s) (range_with_len 0 i)
+unfolding is_boot_template passes
+boots_without s i t q b =
+    boots_more s i
+    ∙ ap (λ (b : Bool). filter (is_boot_template s) (range_with_len 0 i) ++ cond b (i ∷ []) []) (ap (passes (λ (x : Template). x.boot)) q ∙ b)
+    ∙ append-nil (filter (is_boot_template s) (range_with_len 0 i))
+
+-- ---- the tables before the first entry
+
+module _ (s : System) (x : Tables) (o : x.over ≡ false) (n : x.creates ≡ 0) (j : x.journal ≡ record { entries = []; limit = s.plan.journal })
+    (d : x.domains ≡ record { domains = []; threads = []; services = 0; limit = domain_limit s }) (p : x.pool ≡ replicate s.plan.granules false) where
+  -- what is kept of them is what is kept at the start
+  open_kept : kept_in x ≡ first_kept s
+  unfolding words_of granule_limit
+  open_kept =
+      ap2 (λ (over : Bool) (creates : ℕ). let k : Kept = record (kept_in x) { over = over; creates = creates } in k) o n
+      ∙ ap3 (λ (journal : JournalState) (domains : DomainsState) (taken : List Bool). kept journal domains taken) j d p
+    where
+      kept : JournalState → DomainsState → List Bool → Kept
+      kept journal domains taken =
+          record (first_kept s) {
+            past = reverse journal.entries;
+            words = words_of (reverse journal.entries);
+            domains = domains.domains;
+            threads = domains.threads;
+            taken = taken;
+          }
+
+  -- they are those of a nucleus
+  pub open_is_of : IsPlanInRange s.plan → x.boots.items ≡ boot_templates s → IsOf s x
+  unfolding journal_limit
+  open_is_of r b =
+      record {
+        plan = r;
+        stands = subst (StandsFor s) (sym open_kept) (stands_at_start s);
+        journal = ap (λ (z : JournalState). z.limit) j;
+        domains = ap (λ (z : DomainsState). z.limit) d;
+        boots = b;
+      }

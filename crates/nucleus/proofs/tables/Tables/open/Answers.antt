@@ -1,0 +1,16 @@
+use Rattle.std.proofs.Common.{refl, false}
+use Rattle.nucleus.proofs.OpenTables.{open_is_of}
+use Rattle.nucleus.specs.declared.tables.Tables.{Tables}
+use Rattle.nucleus.proofs.tables.Tables.open.Goals as goal
+
+pub returns-clause-tables : goal.returns-clause-tables
+returns-clause-tables c =
+    let x : Tables = record {
+      journal = c.in_ok-open.field-0;
+      over = false;
+      creates = 0;
+      boots = c.in_ok-boots.field-0;
+      domains = c.in_ok-open-2.field-0;
+      pool = c.in_ok-open-3.field-0;
+    } in
+    open_is_of c.args.system.now x refl refl c.in_ok-open.ensures c.in_ok-open-2.ensures c.in_ok-open-3.ensures c.requires c.in_ok-boots.ensures

@@ -1,0 +1,28 @@
+-- What the end of a domain does to the tables.
+use Rattle.std.specs.Prelude.{◌≡◌, ℕ, ◌-◌, false}
+use Rattle.jx_base.specs.declared.act.Act.{Act}
+use Rattle.jx_base.specs.declared.act.Act.TheVariants as act
+use Rattle.jx_base.specs.declared.act.Reason.{Reason}
+use Rattle.jx_base.specs.declared.act.Reason.TheVariants as reason
+use Rattle.jx_base.specs.declared.program.System.{System}
+use Rattle.domain_table.specs.DomainLists as Lists
+use Rattle.extent_pool.specs.Taken.{with_run}
+use Rattle.jx_model.specs.Granules.{Run}
+use Rattle.table_steps.specs.Steps.{heap_in}
+use Rattle.table_threads.specs.Changes.{changed_at}
+use Rattle.nucleus.specs.declared.tables.Tables.{Tables}
+
+-- the act ends its domain for that reason
+abbrev pub IsEndingAct : Act → Reason → Type 0
+IsEndingAct (act.Exit code) why = why ≡ reason.Exit code
+IsEndingAct (act.End r) why = why ≡ r
+IsEndingAct _ why = ⊥
+
+-- the domain has ended, and its heap's granules are free
+abbrev pub with_ended : System → Tables → ℕ → Reason → Tables
+with_ended s x d why =
+    let run : Run = heap_in s x.domains.domains d in
+    record x {
+      domains = record x.domains { domains = changed_at (d - 1) (Lists.ended why) x.domains.domains };
+      pool = with_run x.pool run.0 run.1 false;
+    }

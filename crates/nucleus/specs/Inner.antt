@@ -1,0 +1,54 @@
+-- What the tables of a nucleus are seen as.
+use Rattle.std.specs.Prelude.{◌≡◌, ℕ, [], ◌∷◌, ◌++◌, Some, reverse}
+use Rattle.jx_base.specs.declared.act.Act.{Act}
+use Rattle.jx_base.specs.declared.act.Entry.{Entry}
+use Rattle.jx_base.specs.declared.program.System.{System}
+use Rattle.jx_base.specs.Histories.{Past}
+use Rattle.jx_model.specs.Journal.{words_of}
+use Rattle.jx_model.specs.Permits.{acting_thread}
+use Rattle.jx_model.specs.Tables.{Kept}
+use Rattle.nucleus.specs.NucleusStates.{NucleusState, IsNucleusOf}
+use Rattle.nucleus.specs.Stepping.{MayCome}
+use Rattle.nucleus.specs.declared.tables.Tables.{Tables}
+
+-- the entries, the newest first
+abbrev pub past_in : Tables → Past
+past_in x = reverse x.journal.entries
+
+-- what is kept: there are no services, calls and memory objects by now
+abbrev pub kept_in : Tables → Kept
+kept_in x =
+    record {
+      past = past_in x;
+      over = x.over;
+      words = words_of (past_in x);
+      creates = x.creates;
+      domains = x.domains.domains;
+      threads = x.domains.threads;
+      services = [];
+      names = [];
+      calls = [];
+      waiting = [];
+      parts = [];
+      objects = [];
+      extents = [];
+      taken = x.pool;
+    }
+
+-- what a nucleus with these tables is seen as
+abbrev pub state_of : Tables → NucleusState
+state_of x = record { kept = kept_in x; journal = x.journal.limit; domains = x.domains.limit; boots = x.boots.items }
+
+-- the tables are those of a nucleus of the system
+abbrev pub IsOf : System → Tables → Type 0
+IsOf s x = IsNucleusOf s (state_of x)
+
+-- the act may be asked for, and is permitted in that thread
+pub record IsPermittedIn (s : System) (x : Tables) (d t : ℕ) (a : Act) : Type 0 where
+  pub tables : IsOf s x
+  pub may_come : MayCome s (past_in x) d a
+  pub thread : acting_thread s (past_in x) d a ≡ Some t
+
+-- the tables with the entry behind the others
+abbrev pub with_put : Tables → Entry → Tables
+with_put x e = record x { journal = record x.journal { entries = x.journal.entries ++ e ∷ [] } }

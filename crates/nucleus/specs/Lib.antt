@@ -1,0 +1,6 @@
+pub mod NucleusStates
+pub mod Stepping
+pub mod Inner
+pub mod Entering
+pub mod Births
+pub mod Ends

@@ -1,0 +1,17 @@
+//! The nucleus: a history that grows entry by entry, each permitted and with the reply that those
+//! before it give.
+#![tactic(auto)]
+
+mod birth;
+mod ends;
+mod entering;
+mod nucleus;
+mod opening;
+mod permitting;
+mod reading;
+mod step;
+mod stepping;
+mod tables;
+
+pub use nucleus::Nucleus;
+pub use step::{Ending, Step};

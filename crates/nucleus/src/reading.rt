@@ -1,0 +1,83 @@
+//! What the tables say of what may come.
+ghost use Rattle.std.specs.Prelude.{◌≡◌, ◌<◌, IfSome, Some, length, slice_get};
+ghost use Rattle.std.specs.Option.{option_map};
+ghost use Rattle.jx_model.specs.Domains.{domains_made};
+ghost use Rattle.jx_model.specs.Journal as Journals;
+ghost use Rattle.jx_model.specs.Permits as Permits;
+ghost use Rattle.jx_model.specs.WellMade.{IsSupported};
+ghost use Rattle.nucleus.specs.Inner.{IsOf, past_in};
+
+use crate::tables::Tables;
+use jx_base::{Act, DomainId, Entry, System};
+
+// The words that an entry costs at most.
+const ENTRY_LIMIT: u64 = 4104;
+
+impl Tables {
+    /// Whether the journal may lack the room for one entry of the largest cost.
+    pub fn is_full(&self, system: &System) -> bool
+        requires { IsOf system.now self.now }
+        ensures { result ≡ Journals.is_full system.now (past_in self.now) }
+    {
+        u64::from(self.journal.words()) + ENTRY_LIMIT > u64::from(system.plan.journal)
+    }
+
+    /// The template that is created next at the start.
+    pub fn next_boot(&self, system: &System) -> Option<u32>
+        requires { IsOf system.now self.now }
+        ensures { result ≡ Permits.next_boot system.now (past_in self.now) }
+    {
+        let _ = system;
+        self.boots.get(self.creates).copied()
+    }
+
+    /// The first choice of a domain. There are no calls by now, so that is a go.
+    pub fn choice(&self, system: &System, domain: DomainId) -> Option<Act>
+        requires { IsOf system.now self.now }
+        ensures first { result ≡ Permits.first_choice (past_in self.now) domain.0 }
+        ensures supported { IfSome result IsSupported }
+    {
+        let _ = system;
+        match self.domains.running(domain) {
+            Some(_) => None,
+            None => Some(Act::Go(self.domains.yielded(domain)?)),
+        }
+    }
+
+    /// Whether the domain has a running thread or a choice.
+    pub fn can_act(&self, system: &System, domain: DomainId) -> bool
+        requires { IsOf system.now self.now }
+        ensures { result ≡ Permits.can_act (past_in self.now) domain.0 }
+    {
+        let _ = system;
+        self.domains.running(domain).is_some() || self.domains.yielded(domain).is_some()
+    }
+
+    /// The least domain that can act.
+    pub fn first_alive(&self, system: &System) -> Option<DomainId>
+        requires { IsOf system.now self.now }
+        ensures { option_map (λ d. d.0) result ≡ Permits.first_alive (past_in self.now) }
+    {
+        for number in 1..self.domains.made() + 1 {
+            if self.can_act(system, DomainId(number)) {
+                return Some(DomainId(number));
+            }
+        }
+        None
+    }
+
+    /// How many domains were made.
+    pub fn made(&self) -> u32
+        ensures { (s : System) → IsOf s self.now → result ≡ domains_made (past_in self.now) }
+    {
+        self.domains.made()
+    }
+
+    /// The newest entry.
+    pub fn last(&self) -> &Entry
+        requires { 0 < length (past_in self.now) }
+        ensures { slice_get (past_in self.now) 0 ≡ Some result.now }
+    {
+        self.journal.at(self.journal.len() - 1)
+    }
+}
