@@ -13,3 +13,7 @@ mod domains;
 mod journals;
 #[cfg(test)]
 mod prints;
+#[cfg(test)]
+mod service_desk;
+#[cfg(test)]
+mod services;

@@ -1,0 +1,6 @@
+//! Flags of domains.
+#![tactic(auto)]
+
+mod flags;
+
+pub use flags::DomainFlags;

@@ -1,0 +1,3 @@
+mod NameChains
+mod NamesPushed
+mod ServiceReads

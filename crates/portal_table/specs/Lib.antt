@@ -1,0 +1,4 @@
+pub mod NameLists
+pub mod NamesInside
+pub mod ServiceLists
+pub mod ServicesInside
