@@ -1,0 +1,17 @@
+pub mod CodeActs
+pub mod BuiltInActs
+pub mod RowActs
+pub mod StepActs
+pub mod Picking
+pub mod Permitting
+pub mod Actors
+pub mod Stepped
+pub mod KindsOfActs
+pub mod Entered
+pub mod Booting
+pub mod LastEntries
+pub mod TurnActs
+pub mod Measures
+pub mod WholeRuns
+pub mod OneWorker
+pub mod OwnActs

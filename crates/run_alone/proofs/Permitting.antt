@@ -1,0 +1,327 @@
+-- What one worker picks is permitted.
+use Rattle.std.proofs.Common.{◌≡◌, refl, sym, ◌∙◌, ap, subst, ℕ, ◌<◌, ◌≤◌, ◌^◌, Bool, true, false, ◌&&◌, ◌||◌, List, [], ◌∷◌, ◌++◌, length, Option, Some, None, is_some, is_none, arith, if◌then◌else◌, ◌⊎◌, inl, inr}
+use Rattle.std.specs.Prelude.{IsSome}
+use Rattle.std.specs.Option.{option_and_then, option_map, option_or}
+use Rattle.jx_base.specs.declared.act.Act.{Act}
+use Rattle.jx_base.specs.declared.act.Act.TheVariants as act
+use Rattle.jx_base.specs.declared.act.Reply.{Reply}
+use Rattle.jx_base.specs.declared.ids.CallId.{CallId}
+use Rattle.jx_base.specs.declared.ids.ServiceId.{ServiceId}
+use Rattle.jx_base.specs.declared.ids.ThreadId.{ThreadId}
+use Rattle.jx_base.specs.declared.program.System.{System}
+use Rattle.jx_base.specs.declared.states.ThreadState.{ThreadState}
+use Rattle.jx_base.specs.declared.states.ThreadState.TheVariants as thread
+use Rattle.jx_base.specs.Basics.{first_some, is_number, passes}
+use Rattle.jx_base.specs.Histories.{Past, is_own, own_entries}
+use Rattle.jx_base.proofs.BasicLaws.{ap2, ap3, passed}
+use Rattle.program_model.specs.Lookup.{template_at}
+use Rattle.machine_model.specs.Machine.{Does, Idle, NextAct, act_in, domain_state, next_act}
+use Rattle.machine_model.specs.Running.{Ask, Step, StepOutcome, state_at_act, step}
+use Rattle.machine_model.specs.State.{State}
+use Rattle.machine_laws.proofs.Standing.{standing}
+use Rattle.jx_base.specs.declared.act.Reason.TheVariants as reason
+use Rattle.jx_model.specs.Calls.{is_resumable, queue_head}
+use Rattle.jx_model.specs.Domains.{is_live, template_of}
+use Rattle.jx_model.specs.Journal.{is_full}
+use Rattle.jx_model.specs.Legal.{FollowsCode, IsAdmittedPast, IsFrom}
+use Rattle.jx_model.specs.Permits.{acting_thread, can_act, choice_thread, domain_thread, domains_wait, first_choice, first_of_choices, go_at, going_thread, idle_thread, is_choice, is_halt, is_over, is_yielded, is_zero_act, may_perform, next_boot, resume_at, resume_in, take_at, zero_may, zero_may_now}
+use Rattle.jx_model.specs.SingleWorker.{act_of_turn, code_act, performed}
+use Rattle.jx_model.specs.Threads.{new_threads, new_threads_of, running_thread, service_threads, thread_state, threads_of}
+use Rattle.jx_model.specs.WellMade.{IsSupported, is_supported}
+use Rattle.jx_model.proofs.Acting.{chosen, running_within, state_within}
+use Rattle.supported_acts.specs.SupportedActs.{AreSupported}
+use Rattle.table_threads.proofs.Records.{is_that, not_that}
+use Rattle.thread_laws.proofs.Agreement.{agreement_stands}
+use Rattle.run_alone.proofs.CodeActs.{IsCodeAct, not_zeros}
+use Rattle.run_alone.proofs.Picking.{acts_live, choice_live, none_acts}
+use Rattle.run_alone.proofs.StepActs.{DoesOfCode, next_of}
+use Rattle.run_alone.specs.Workers.{HasRoom, IsTurnOf}
+
+-- ---- Domain Zero
+
+pub zero_acts : (s : System) (past : Past) (a : Act) → is_over past ≡ false → zero_may_now s past a ≡ true → acting_thread s past 0 a ≡ Some 0
+unfolding acting_thread
+zero_acts s past a o h =
+    ap3 (λ (x y m : Bool). if x then None else if y then (if m then Some 0 else None) else if domains_wait s past then None else domain_thread past 0 a) o (is_that 0 0 refl) h
+
+pub halt_may : (s : System) (past : Past) → is_full s past ≡ true → zero_may_now s past act.Halt ≡ true
+unfolding zero_may_now is_halt
+halt_may s past f = ap (λ (b : Bool). if b then true else zero_may s past act.Halt) f
+
+pub create_may : (s : System) (past : Past) (t : ℕ) → is_full s past ≡ false → next_boot s past ≡ Some t → zero_may_now s past (act.Create t) ≡ true
+unfolding zero_may_now zero_may is_number is_halt
+create_may s past t f q = ap2 (λ (b : Bool) (o : Option ℕ). if b then false else is_number o t) f q ∙ is_that t t refl
+
+pub quiet_may : (s : System) (past : Past) → IsTurnOf s past None → zero_may_now s past act.Quiet ≡ true
+unfolding zero_may_now zero_may is_halt
+quiet_may s past h =
+    ap3 (λ (b : Bool) (o p : Option ℕ). if b then false else is_none o && is_none p) h.free.room h.free.booted (none_acts past h.turn)
+
+-- ---- a domain's threads
+
+-- acts with code make no threads
+none_new : (a : Act) (r : Reply) → IsSupported a → new_threads a r ≡ []
+unfolding new_threads is_supported
+none_new (act.Export iface k) r h = cc
+none_new _ r h = refl
+
+-- so there are none but thread 0
+pub one_thread : (past : Past) (d : ℕ) → AreSupported past → service_threads past d ≡ []
+unfolding service_threads new_threads_of
+one_thread [] d h = refl
+one_thread (e ∷ past) d h = ap2 (λ (xs ys : List ServiceId). xs ++ ys) (one_thread past d h.1) (by (is_own d e))
+  where
+    by : (b : Bool) → (if b then new_threads e.act e.reply else []) ≡ []
+    by true = none_new e.act e.reply h.0
+    by false = refl
+
+pub runs_first : (past : Past) (d t : ℕ) → AreSupported past → running_thread past d ≡ Some t → t ≡ 0
+runs_first past d t h q = omega (arith, running_within past d t q, ap length (one_thread past d h))
+
+-- ---- choices
+
+-- where the first of several is found
+first_there : {A : Type 0} (f : A → Option Act) (xs : List A) (a : Act) → first_some f xs ≡ Some a → (x : A) × (f x ≡ Some a)
+unfolding first_some
+first_there f [] a h = cc
+first_there {A} f (x ∷ xs) a h = by (f x) refl h (first_there f xs a)
+  where
+    by : (o : Option Act) → f x ≡ o → (elim o as (λ _. Option Act) [ Some y ↦ Some y | None ↦ first_some f xs ]) ≡ Some a → (first_some f xs ≡ Some a → (x : A) × (f x ≡ Some a)) → (x : A) × (f x ≡ Some a)
+    by None q h again = again h
+    by (Some y) q h again = (x, q ∙ h)
+
+-- the go of a thread that has yielded
+pub record IsGoOf (past : Past) (d : ℕ) (a : Act) : Type 0 where
+  pub thread : ThreadId
+  pub is : a ≡ act.Go thread
+  pub going : going_thread past d thread.0 ≡ Some thread.0
+
+-- an act with code is no resume and no take
+resume_lacks : {A : Type 0} (c : CallId) (a : Act) → IsSupported a → act.Resume c ≡ a → A
+unfolding is_supported
+resume_lacks c (act.Resume k) u q = cc
+resume_lacks c _ u q = cc
+
+take_lacks : {A : Type 0} (c : CallId) (a : Act) → IsSupported a → act.Take c ≡ a → A
+unfolding is_supported
+take_lacks c (act.Take k) u q = cc
+take_lacks c _ u q = cc
+
+no_resume : {A : Type 0} (past : Past) (d t : ℕ) (a : Act) → IsSupported a → resume_at past d t ≡ Some a → A
+unfolding resume_at resume_in
+no_resume {A} past d t a u h = state (thread_state past d t) h
+  where
+    acts : (c : CallId) (b : Bool) → (if b then Some (act.Resume c) else None) ≡ Some a → A
+    acts c true h = resume_lacks c a u (let q : act.Resume c ≡ a = cc in q)
+    acts c false h = cc
+
+    state : (o : Option ThreadState) → option_and_then (resume_in past) o ≡ Some a → A
+    state None h = cc
+    state (Some (thread.Waiting c)) h = acts c (is_resumable past c.0) h
+    state (Some thread.Running) h = cc
+    state (Some (thread.Serving c)) h = cc
+    state (Some (thread.Idle k)) h = cc
+    state (Some thread.Yielded) h = cc
+    state (Some thread.Over) h = cc
+
+no_take : {A : Type 0} (past : Past) (d t : ℕ) (a : Act) → IsSupported a → take_at past d t ≡ Some a → A
+unfolding take_at
+no_take {A} past d t a u h = by (is_some (idle_thread past d t)) (queue_head past t) h
+  where
+    by : (b : Bool) (o : Option ℕ) → (if b then option_map (λ c. act.Take (record { 0 = c })) o else None) ≡ Some a → A
+    by true (Some c) h = take_lacks (record { 0 = c }) a u (let q : act.Take (record { 0 = c }) ≡ a = cc in q)
+    by true None h = cc
+    by false o h = cc
+
+going_same : (past : Past) (d t k : ℕ) → going_thread past d t ≡ Some k → k ≡ t
+unfolding going_thread
+going_same past d t k q = let z = (chosen (passes is_yielded (thread_state past d t)) k (Some t) q).1 in let w : t ≡ k = cc in sym w
+
+go_there : (past : Past) (d t : ℕ) (a : Act) → go_at past d t ≡ Some a → IsGoOf past d a
+unfolding go_at
+go_there past d t a h = by (going_thread past d t) refl h
+  where
+    by : (o : Option ℕ) → going_thread past d t ≡ o → option_map (λ k. act.Go (record { 0 = k })) o ≡ Some a → IsGoOf past d a
+    by None q h = cc
+    by (Some k) q h =
+        let w : act.Go (record { 0 = k }) ≡ a = cc in
+        record { thread = record { 0 = k }; is = sym w; going = ap (going_thread past d) (going_same past d t k q) ∙ q }
+
+-- a first choice that has code is a go
+pub choice_goes : (past : Past) (d : ℕ) (a : Act) → first_choice past d ≡ Some a → IsSupported a → IsGoOf past d a
+unfolding first_of_choices
+choice_goes past d a h u = resumes (first_some (resume_at past d) (threads_of past d)) refl (choice_live past d a h).2
+  where
+    gos : first_some (go_at past d) (threads_of past d) ≡ Some a → IsGoOf past d a
+    gos q = let x = first_there (go_at past d) (threads_of past d) a q in go_there past d x.0 a x.1
+
+    takes : (o : Option Act) → first_some (λ (s : ServiceId). take_at past d s.0) (service_threads past d) ≡ o → option_or o (first_some (go_at past d) (threads_of past d)) ≡ Some a → IsGoOf past d a
+    takes None q h = gos h
+    takes (Some b) q h = let x = first_there (λ (s : ServiceId). take_at past d s.0) (service_threads past d) a (q ∙ h) in no_take past d x.0.0 a u x.1
+
+    resumes : (o : Option Act) → first_some (resume_at past d) (threads_of past d) ≡ o →
+        option_or o (option_or (first_some (λ (s : ServiceId). take_at past d s.0) (service_threads past d)) (first_some (go_at past d) (threads_of past d))) ≡ Some a → IsGoOf past d a
+    resumes None q h = takes (first_some (λ (s : ServiceId). take_at past d s.0) (service_threads past d)) refl h
+    resumes (Some b) q h = let x = first_there (resume_at past d) (threads_of past d) a (q ∙ h) in no_resume past d x.0 a u x.1
+
+-- ---- what the running thread may perform
+
+performs : (past : Past) (d t : ℕ) (a : Act) → IsSupported a → IsCodeAct a → t ≡ 0 → may_perform past d t a ≡ true
+unfolding may_perform is_supported is_zero_act is_choice
+performs past d t (act.EndThread c) u k z = is_that t 0 z
+performs past d t (act.Print text) u k z = refl
+performs past d t (act.Exit code) u k z = refl
+performs past d t act.Yield u k z = refl
+performs past d t (act.End r) u k z = refl
+performs past d t (act.Create x) u k z = absurd k
+performs past d t act.Quiet u k z = absurd k
+performs past d t act.Halt u k z = absurd k
+performs past d t (act.Go x) u k z = absurd k
+performs past d t _ u k z = cc
+
+running_acts : (past : Past) (d t : ℕ) (a : Act) → running_thread past d ≡ Some t → may_perform past d t a ≡ true → domain_thread past d a ≡ Some t
+unfolding domain_thread
+running_acts past d t a q h =
+    ap (λ (o : Option ℕ). elim o as (λ _. Option ℕ) [ Some r ↦ if may_perform past d r a then Some r else None | None ↦ if is_live past d then choice_thread past d a else None ]) q
+    ∙ ap (λ (b : Bool). if b then Some t else None) h
+
+choice_acts : (past : Past) (d t : ℕ) (a : Act) → running_thread past d ≡ None → is_live past d ≡ true → choice_thread past d a ≡ Some t → domain_thread past d a ≡ Some t
+unfolding domain_thread
+choice_acts past d t a q l h =
+    ap2 (λ (o : Option ℕ) (b : Bool). elim o as (λ _. Option ℕ) [ Some r ↦ if may_perform past d r a then Some r else None | None ↦ if b then choice_thread past d a else None ]) q l ∙ h
+
+domain_acts : (s : System) (past : Past) (d t : ℕ) (a : Act) → is_over past ≡ false → 1 ≤ d → HasRoom s past → domain_thread past d a ≡ Some t → acting_thread s past d a ≡ Some t
+unfolding acting_thread domains_wait
+domain_acts s past d t a o m f h =
+    ap3 (λ (x y w : Bool). if x then None else if y then (if zero_may_now s past a then Some 0 else None) else if w then None else domain_thread past d a) o (not_that d 0 (λ q. omega (arith, q, m)))
+    (ap2 (λ (x : Bool) (o : Option ℕ). x || is_some o) f.room f.booted)
+    ∙ h
+
+go_acts : (past : Past) (d : ℕ) (t : ThreadId) → going_thread past d t.0 ≡ Some t.0 → choice_thread past d (act.Go t) ≡ Some t.0
+unfolding choice_thread
+go_acts past d t h = h
+
+-- ---- the code of a domain
+
+-- a domain of a template that was made in an admitted past, and whose entries follow the template's code
+pub record HasCode (s : System) (past : Past) (d t : ℕ) : Type 0 where
+  pub admitted : IsAdmittedPast s past
+  pub made : 1 ≤ d
+  pub template : template_of s past d ≡ Some t
+  pub there : IsSome (template_at s t)
+  pub follows : FollowsCode s t (own_entries past d)
+
+module _ (s : System) (past : Past) (d t : ℕ) (z : HasCode s past d t) (live : is_live past d ≡ true) where
+  -- the state at the code's next act
+  abbrev here : State
+  here = state_at_act s (domain_state s t (own_entries past d))
+
+  agrees : here.running ≡ running_thread past d
+  agrees =
+      let g = standing s t (own_entries past d) in
+      (agreement_stands s past z.admitted d t here z.made z.there z.follows (g.settled (domain_state s t (own_entries past d)) g.first)).running live
+
+  -- while no thread runs, it does nothing
+  pub idles : running_thread past d ≡ None → next_act s t (own_entries past d) ≡ Idle
+  unfolding next_act act_in
+  idles q = ap (λ (o : Option ℕ). elim o as (λ _. NextAct) [
+    | None ↦ Idle
+    | Some k ↦ elim (step s here k) as (λ _. NextAct) [ Ask a ↦ Does a | Step new ↦ Does (act.End reason.Fuel) ]
+  ]) (agrees ∙ q)
+
+  -- while one runs, it performs an act
+  pub works : (k : ℕ) → running_thread past d ≡ Some k → (a : Act) × (next_act s t (own_entries past d) ≡ Does a)
+  unfolding next_act act_in
+  works k q = by (step s here k) refl
+    where
+      first : next_act s t (own_entries past d) ≡ (elim (step s here k) as (λ _. NextAct) [ Ask a ↦ Does a | Step new ↦ Does (act.End reason.Fuel) ])
+      first = ap (λ (o : Option ℕ). elim o as (λ _. NextAct) [
+        | None ↦ Idle
+        | Some k ↦ elim (step s here k) as (λ _. NextAct) [ Ask a ↦ Does a | Step new ↦ Does (act.End reason.Fuel) ]
+      ]) (agrees ∙ q)
+
+      by : (o : StepOutcome) → step s here k ≡ o → (a : Act) × (next_act s t (own_entries past d) ≡ Does a)
+      by (Ask a) w = (a, first ∙ ap (λ (o : StepOutcome). elim o as (λ _. NextAct) [ Ask a ↦ Does a | Step new ↦ Does (act.End reason.Fuel) ]) w)
+      by (Step new) w = (act.End reason.Fuel, first ∙ ap (λ (o : StepOutcome). elim o as (λ _. NextAct) [ Ask a ↦ Does a | Step new ↦ Does (act.End reason.Fuel) ]) w)
+
+-- ---- the act of a turn
+
+module _ (s : System) (past : Past) (d t : ℕ) (q : template_of s past d ≡ Some t) where
+  turn_code : act_of_turn s past d ≡ option_or (performed (next_act s t (own_entries past d))) (first_choice past d)
+  unfolding act_of_turn code_act
+  turn_code = ap (λ (o : Option ℕ). option_or (option_and_then (λ (t : ℕ). performed (next_act s t (own_entries past d))) o) (first_choice past d)) q
+
+  -- where the code performs an act, that one
+  pub turn_does : (a : Act) → next_act s t (own_entries past d) ≡ Does a → act_of_turn s past d ≡ Some a
+  unfolding performed
+  turn_does a w = turn_code ∙ ap (λ (n : NextAct). option_or (performed n) (first_choice past d)) w
+
+  -- else the first choice
+  pub turn_idles : next_act s t (own_entries past d) ≡ Idle → act_of_turn s past d ≡ first_choice past d
+  unfolding performed
+  turn_idles w = turn_code ∙ ap (λ (n : NextAct). option_or (performed n) (first_choice past d)) w
+
+runs_or_not : (o : Option ℕ) → (o ≡ None) ⊎ ((k : ℕ) × (o ≡ Some k))
+runs_or_not None = inl refl
+runs_or_not (Some k) = inr (k, refl)
+
+-- a domain that can act and whose code does nothing has a choice
+pub has_choice : {A : Type 0} (s : System) (past : Past) (d t : ℕ) → HasCode s past d t → can_act past d ≡ true → next_act s t (own_entries past d) ≡ Idle → first_choice past d ≡ None → A
+unfolding can_act
+has_choice {A} s past d t z h w n = elim (runs_or_not (running_thread past d)) [
+  | inl q ↦ none (running_thread past d) (first_choice past d) q n h
+  | inr x ↦ let y = works s past d t z (acts_live past d h) x.0 x.1 in let e : Does y.0 ≡ Idle = sym y.1 ∙ w in cc
+]
+  where
+    none : (o : Option ℕ) (c : Option Act) → o ≡ None → c ≡ None → (is_some o || is_some c) ≡ true → A
+    none None None p q h = cc
+    none (Some k) c p q h = cc
+    none None (Some a) p q h = cc
+
+-- the entry of a go is well made
+pub go_well_made : (past : Past) (d : ℕ) (t : ThreadId) → AreSupported past → going_thread past d t.0 ≡ Some t.0 → t.0 < 2 ^ 32
+unfolding going_thread
+go_well_made past d t u h =
+    let y = passed is_yielded (thread_state past d t.0) (chosen (passes is_yielded (thread_state past d t.0)) t.0 (Some t.0) h).0 in
+    omega (arith, state_within past d t.0 y.0 y.1, ap length (one_thread past d u))
+
+module _ (s : System) (past : Past) (d t : ℕ) (a : Act) (z : HasCode s past d t) (able : can_act past d ≡ true) (act : act_of_turn s past d ≡ Some a) (supported : IsSupported a) where
+  -- the act of a turn is the code's, and a thread runs, or a go while none runs
+  cases : ((k : ℕ) × (running_thread past d ≡ Some k) × (next_act s t (own_entries past d) ≡ Does a)) ⊎ ((running_thread past d ≡ None) × (next_act s t (own_entries past d) ≡ Idle) × IsGoOf past d a)
+  cases = elim (runs_or_not (running_thread past d)) [
+    | inl q ↦ let w = idles s past d t z (acts_live past d able) q in inr (q, w, choice_goes past d a (sym (turn_idles s past d t z.template w) ∙ act) supported)
+    | inr x ↦
+        let y = works s past d t z (acts_live past d able) x.0 x.1 in
+        let e : y.0 ≡ a = cc (turn_does s past d t z.template y.0 y.1) in inl (x.0, x.1, y.1 ∙ ap Does e)
+  ]
+
+  -- it is the code's, or a choice where that does nothing
+  pub turn_from : IsFrom (next_act s t (own_entries past d)) a
+  unfolding is_choice
+  turn_from = elim cases [
+    | inl x ↦ subst (λ (n : NextAct). IsFrom n a) (sym x.2) refl
+    | inr x ↦ subst (λ (n : NextAct). IsFrom n a) (sym x.1) (subst (λ (b : Act). IsFrom Idle b) (sym x.2.is) refl)
+  ]
+
+  -- it is permitted
+  pub turn_permitted : AreSupported past → is_over past ≡ false → HasRoom s past → (r : ℕ) × (acting_thread s past d a ≡ Some r)
+  turn_permitted u o f = elim cases [
+    | inl x ↦ (
+      x.0,
+      domain_acts s past d x.0 a o z.made f (running_acts past d x.0 a x.1
+          (performs past d x.0 a supported (subst DoesOfCode x.2 (next_of s t (own_entries past d))) (runs_first past d x.0 u x.1))),
+    )
+    | inr x ↦ (
+      x.2.thread.0,
+      domain_acts s past d x.2.thread.0 a o z.made f (choice_acts past d x.2.thread.0 a x.0 (acts_live past d able)
+          (subst (λ (b : Act). choice_thread past d b ≡ Some x.2.thread.0) (sym x.2.is) (go_acts past d x.2.thread x.2.going))),
+    )
+  ]
+
+-- an act of a turn is none of Domain Zero's
+pub turn_not_zeros : (s : System) (past : Past) (d t : ℕ) (a : Act) → HasCode s past d t → can_act past d ≡ true → act_of_turn s past d ≡ Some a → IsSupported a → is_zero_act a ≡ false
+unfolding is_zero_act
+turn_not_zeros s past d t a z able act u = elim (cases s past d t a z able act u) [
+  | inl x ↦ not_zeros a (subst DoesOfCode x.2 (next_of s t (own_entries past d)))
+  | inr x ↦ subst (λ (b : Act). is_zero_act b ≡ false) (sym x.2.is) refl
+]

@@ -1,0 +1,4 @@
+pub mod RunsAlone
+pub mod Workers
+pub mod Ends
+pub mod RunLaws
