@@ -23,7 +23,8 @@ use Rattle.jx_model.specs.Replies.{reply_to, new_domain, ◌refuses◌else◌, g
 use Rattle.jx_model.specs.Legal.{IsNext, IsAdmitted, IsAdmittedPast}
 use Rattle.jx_model.specs.WellMade.{IsSupported, is_supported}
 use Rattle.jx_base.proofs.NthEntries.{count_same}
-use Rattle.audit_text.specs.Rendering.{IsSupportedReply, IsSupportedEntry, HasSupportedActs, made_template, own_reason}
+use Rattle.audit_text.specs.Rendering.{IsSupportedReply, IsSupportedEntry, made_template, own_reason}
+use Rattle.supported_acts.specs.SupportedActs.{HasSupportedActs}
 
 -- ---- what all have, in any order
 

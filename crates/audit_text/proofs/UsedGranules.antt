@@ -1,5 +1,5 @@
 -- The granules in use are those of the heaps that were made.
-use Rattle.std.proofs.Common.{◌≡◌, refl, sym, ◌∙◌, ap, ℕ, ◌+◌, ◌/◌, ◌<◌, ◌≤◌, Bool, true, false, if◌then◌else◌, List, [], ◌∷◌, ◌++◌, length, get_or, Option, Some, None, is_some, reverse, append-nil, arith}
+use Rattle.std.proofs.Common.{◌≡◌, refl, sym, ◌∙◌, ap, ℕ, ◌+◌, ◌<◌, ◌≤◌, Bool, true, false, if◌then◌else◌, List, [], ◌∷◌, ◌++◌, Option, Some, None, is_some, reverse, append-nil, arith}
 use Rattle.std.specs.Prelude.{nat_le, nat_lt, filter_map, is_none, ◌&&◌}
 use Rattle.std.specs.List.{AllByRecursion, flat_map, cons_option}
 use Rattle.std.proofs.lemmas.Bool.Decides.{nat_tests}
@@ -10,13 +10,11 @@ use Rattle.jx_base.specs.declared.act.Refusal.TheVariants as refusal
 use Rattle.jx_base.specs.declared.act.Entry.{Entry}
 use Rattle.jx_base.specs.declared.act.Reason.{Reason}
 use Rattle.jx_base.specs.declared.program.System.{System}
-use Rattle.jx_base.specs.declared.program.Template.{Template}
-use Rattle.std.proofs.lemmas.Option.{slice_get_read, slice_get_past}
-use Rattle.jx_base.specs.Basics.{up_to, parts_of}
-use Rattle.program_model.specs.Limits.{domain_limit, granule_cells}
+use Rattle.jx_base.specs.Basics.{up_to}
+use Rattle.program_model.specs.Limits.{domain_limit}
 use Rattle.jx_base.specs.Histories.{Past}
 use Rattle.jx_model.specs.Domains.{domains_made, birth_of, is_birth, makes_domain, is_live, is_made, end_reason, named_template, template_of, heap_place_of}
-use Rattle.jx_model.specs.Granules.{Run, heap_granules, heap_of_template, heap_run, run_if, heap_runs, extent_runs, used_runs, run_granules, used_granules, first_fit}
+use Rattle.jx_model.specs.Granules.{Run, heap_granules, heap_run, run_if, heap_runs, extent_runs, used_runs, run_granules, used_granules, first_fit}
 use Rattle.jx_model.specs.Replies.{reply_to, new_domain, ◌refuses◌else◌, given_or}
 use Rattle.jx_model.specs.Legal.{IsNext, IsAdmittedPast}
 use Rattle.jx_model.specs.WellMade.{IsSupported, is_supported}
@@ -170,11 +168,3 @@ birth_count-Some e t is = rw is refl
 pub birth_count-None : (e : Entry) → made_template e.act e.reply ≡ None → birth_count e ≡ 0
 unfolding birth_count one_made
 birth_count-None e is = rw is refl
-
-pub heap_granules-found : (s : System) (t : ℕ) (x : Template) → t < length s.plan.templates → x ≡ get_or s.plan.templates t x → heap_granules s t ≡ (x.heap + 7) / 8
-unfolding heap_granules heap_of_template parts_of granule_cells
-heap_granules-found s t x lt is = rw (slice_get_read s.plan.templates (length s.plan.templates) t x refl lt is) refl
-
-pub heap_granules-none : (s : System) (t : ℕ) → length s.plan.templates ≤ t → heap_granules s t ≡ 0
-unfolding heap_granules heap_of_template parts_of granule_cells
-heap_granules-none s t le = rw (slice_get_past s.plan.templates t le) refl

@@ -1,6 +1,6 @@
--- What can be rendered by now: histories whose acts have code.
+-- Entries whose acts have code, and the words of their lines.
 use Rattle.std.specs.Prelude.{ℕ, ◌+◌, List, [], ◌∷◌, ◌++◌, Option, Some, None, codes, decimal}
-use Rattle.std.specs.List.{AllByRecursion, flat_map}
+use Rattle.std.specs.List.{flat_map}
 use Rattle.jx_base.specs.declared.act.Act.{Act}
 use Rattle.jx_base.specs.declared.act.Act.TheVariants as act
 use Rattle.jx_base.specs.declared.act.Entry.{Entry}
@@ -8,7 +8,6 @@ use Rattle.jx_base.specs.declared.act.Reason.{Reason}
 use Rattle.jx_base.specs.declared.act.Reason.TheVariants as reason
 use Rattle.jx_base.specs.declared.act.Reply.{Reply}
 use Rattle.jx_base.specs.declared.act.Reply.TheVariants as reply
-use Rattle.jx_base.specs.declared.act.History.{History}
 use Rattle.jx_base.specs.declared.program.System.{System}
 use Rattle.jx_base.specs.Texts.{after_space, spaced}
 use Rattle.audit_model.specs.Audit.{template_text, act_word, act_operands, reply_word, reply_operands}
@@ -38,10 +37,6 @@ spaced_reply s r = flat_map after_space (reply_word r ∷ reply_operands s r)
 -- the number of an entry, its domain and its thread
 unfoldable pub actor_text : ℕ → Entry → List ℕ
 actor_text n e = spaced (decimal n ∷ decimal e.domain.0 ∷ decimal e.thread.0 ∷ [])
-
--- each act of the history has code
-abbrev pub HasSupportedActs : History → Type 0
-HasSupportedActs h = AllByRecursion (λ e. IsSupported e.act) h.entries
 
 -- the template of the domain that a create made
 unfoldable pub made_template : Act → Reply → Option ℕ

@@ -4,8 +4,9 @@ ghost use Rattle.std.specs.List.{AllByRecursion};
 ghost use Rattle.jx_base.specs.Puts.{Puts};
 ghost use Rattle.audit_model.specs.AuditText.{audit_text, lines_after, state_lines};
 ghost use Rattle.jx_model.specs.Legal.{IsAdmitted, IsAdmittedPast};
-ghost use Rattle.audit_text.specs.Rendering.{HasSupportedActs, IsSupportedEntry};
+ghost use Rattle.audit_text.specs.Rendering.{IsSupportedEntry};
 ghost use Rattle.page_text.specs.Writes.{Writes};
+ghost use Rattle.supported_acts.specs.SupportedActs.{HasSupportedActs};
 
 use crate::console::write_console;
 use crate::domains::write_domains;

@@ -2,13 +2,15 @@
 ghost use Rattle.std.specs.Prelude.{◌≡◌, ◌≤◌, ◌<◌, ◌^◌, reverse};
 ghost use Rattle.std.specs.List.{AllByRecursion};
 ghost use Rattle.audit_model.specs.AuditText.{before_last, end_word, total_line, total_lines};
-ghost use Rattle.jx_model.specs.Granules.{heap_granules, used_granules};
+ghost use Rattle.jx_model.specs.Granules as Spec;
+ghost use Rattle.jx_model.specs.Granules.{used_granules};
 ghost use Rattle.jx_model.specs.Journal.{entry_words, words_of};
 ghost use Rattle.jx_model.specs.Legal.{IsAdmittedPast};
 ghost use Rattle.audit_text.specs.Rendering.{IsSupportedEntry, total, where_live};
 ghost use Rattle.page_text.specs.Writes.{Writes};
 
 use crate::domains::{end_reason, made_template};
+use extent_pool::heap_granules;
 use jx_base::{Act, Entry, Failed, Reason, Sink, System};
 use page_text::{Page, Piece, write_line};
 
@@ -19,26 +21,14 @@ fn wide(n: u32) -> u64
     u64::from(n)
 }
 
-// The granules of the heap of a domain of the template.
-#[tactic(auto, unfolding(jx_model::specs::Granules::heap_granules, jx_model::specs::Granules::heap_of_template, jx_base::specs::Basics::parts_of, program_model::specs::Limits::granule_cells))]
-fn heap_granules(system: &System, template: u32) -> u64
-    ensures granules { result ≡ heap_granules system.now template }
-    ensures small { result ≤ 2 ^ 29 }
-{
-    match system.plan.templates.as_slice().get(template as usize) {
-        Some(found) => (wide(found.heap) + 7) / 8,
-        None => 0,
-    }
-}
-
 // The granules that a domain of the template has in use, if it has not ended.
 #[tactic(auto, unfolding(crate::specs::Rendering::total, crate::specs::Rendering::where_live))]
 fn granules_of(system: &System, template: u32, why: Option<Reason>) -> u64
-    ensures granules { result ≡ total (where_live why (heap_granules system.now template)) }
+    ensures granules { result ≡ total (where_live why (Spec.heap_granules system.now template)) }
     ensures small { result ≤ 2 ^ 29 }
 {
     match why {
-        None => heap_granules(system, template),
+        None => wide(heap_granules(system, template)),
         Some(_) => 0,
     }
 }

@@ -1,11 +1,16 @@
 -- From the steps of a command to the command.
-use Rattle.std.specs.Prelude.{◌≡◌, refl, ℕ, List, [], ◌∷◌, Option, Some, Err, String, codes, string_bytes}
+use Rattle.std.specs.Prelude.{◌≡◌, refl, ℕ, List, Option, Some, Err, String, string_bytes}
 use Rattle.std.specs.declared.alloc.Global.{Global}
 use Rattle.std.proofs.Common.{◌∙◌, ap, subst}
 use Rattle.jx_base.specs.Files.{Files}
-use Rattle.jx_base.specs.Puts.{SinkState, TookNothing}
+use Rattle.jx_base.specs.Puts.{SinkState, TookWhole}
+use Rattle.jx_base.specs.declared.act.Act.{Act}
 use Rattle.jx_base.specs.declared.act.Act.TheVariants as act
+use Rattle.jx_base.specs.declared.act.History.{History}
 use Rattle.jx_base.specs.declared.program.System.{System}
+use Rattle.audit_model.specs.AuditText.{audit_text}
+use Rattle.jx_model.specs.SingleWorker.{IsSingleWorkerHistory}
+use Rattle.supported_acts.specs.SupportedActs.{HasSupportedActs}
 use Rattle.jx_top.specs.Assemblies.{SaysBytes}
 use Rattle.jx_top.specs.Commands.{Command, IsSerial, command_of}
 use Rattle.jx_top.specs.Commands as command
@@ -13,19 +18,19 @@ use Rattle.jx_top.specs.Finding.{CanStop, IsCauseOfStop, Finds}
 use Rattle.jx_top.specs.Headline.{IsAuditOf}
 use Rattle.jx_top.specs.Outcomes.{Outcome, outcome_of}
 use Rattle.jx_top.specs.Outcomes as outcome
-use Rattle.jx_top.specs.Requests.{HasFirstFile, HasOtherSystem, IsCaused, CanEnd, HasCauseFor, PutsFor}
+use Rattle.jx_top.specs.Requests.{IsCaused, IsDueFor, IsTextOf, IsWhole, CanEnd, HasCauseFor, PutsFor}
 use Rattle.jx_top.specs.StatusLines.{counts_line}
-use Rattle.jx_top.specs.Steps.{IsEarly, StopsSo, PutsText, IsFirstAudit, PutsFirstAudit, IsNotYet}
+use Rattle.jx_top.specs.Steps.{EndsSo, IsEarly, IsNotYet, IsRunText, IsTextOfRun, PutsAudit, PutsRun, PutsText, StopsSo}
 use Rattle.jx_top.specs.Systems.{IsSystemOf, IsStopped}
 use Rattle.jx_top.specs.declared.request.Request.{Request}
 use Rattle.jx_top.specs.declared.request.Request.TheVariants as request
 use Rattle.jx_top.specs.declared.status.Status.{Status}
-use Rattle.jx_top.proofs.OneOutcome.{first_gives}
 
 -- ---- a search that stops
 
 early : (o : Outcome) → CanStop o → IsEarly o
 early outcome.Done p = p
+early outcome.Halted p = p
 early outcome.SinkFault p = p
 early _ p = tt
 
@@ -38,11 +43,13 @@ check_can_end : (file : List ℕ) (o : Outcome) → CanStop o → CanEnd (comman
 check_can_end file outcome.Usage p = p
 check_can_end file (outcome.BadAsm f) p = p
 check_can_end file (outcome.NotYet n) p = p
+check_can_end file outcome.Halted p = p
 check_can_end file _ p = tt
 
 run_caused : (files : Files) (file : List ℕ) (o : Outcome) → CanStop o → IsCauseOfStop (IsStopped files file) o
     → IsCaused files (command.Run file 1) o
 run_caused files file outcome.Done can p = absurd can
+run_caused files file outcome.Halted can p = absurd can
 run_caused files file outcome.SinkFault can p = absurd can
 run_caused files file (outcome.NotYet n) can p = absurd can
 run_caused files file _ can p = p
@@ -75,6 +82,7 @@ check_stops told Found file s p = record {
 
 early_puts : (c : Command) (told : Option Files) (now : SinkState) (o : Outcome) → IsEarly o → PutsFor c told now now o
 early_puts c told now outcome.Done p = absurd p
+early_puts c told now outcome.Halted p = absurd p
 early_puts c told now outcome.SinkFault p = absurd p
 early_puts c told now _ p = refl
 
@@ -95,6 +103,13 @@ put_puts told file bytes before now outcome.Done h p = (bytes, h, p)
 put_puts told file bytes before now outcome.SinkFault h p = (outcome.Done, bytes, h, p)
 put_puts told file bytes before now _ h p = absurd p
 
+pub put_cause : (told : Option Files) (file bytes : List ℕ) (before now : SinkState) (o : Outcome) → Says told file bytes
+    → PutsText bytes before now o → HasCauseFor (command.Asm file) told o
+put_cause told file bytes before now outcome.Done h p = record { can_end = tt; where_told = λ files t. (bytes, h files t) }
+put_cause told file bytes before now outcome.SinkFault h p =
+    record { can_end = tt; where_told = λ files t. record { due = outcome.Done; whole = tt; is_due = (bytes, h files t) } }
+put_cause told file bytes before now _ h p = absurd p
+
 -- ---- counts that were to be put
 
 abbrev pub Gives : Option Files → List ℕ → System → Type 0
@@ -111,60 +126,89 @@ counts_puts told file s before now _ h p = absurd p
 pub counts_cause : (told : Option Files) (file text : List ℕ) (s : System) (before now : SinkState) (o : Outcome) → Gives told file s
     → PutsText text before now o → HasCauseFor (command.Check file) told o
 counts_cause told file text s before now outcome.Done h p = record { can_end = tt; where_told = λ files t. (s, h files t) }
-counts_cause told file text s before now outcome.SinkFault h p = record { can_end = tt; where_told = λ files t. (s, h files t) }
+counts_cause told file text s before now outcome.SinkFault h p =
+    record { can_end = tt; where_told = λ files t. record { due = outcome.Done; whole = tt; is_due = (s, h files t) } }
 counts_cause told file text s before now _ h p = absurd p
 
 -- ---- an audit that was to be put
 
-abbrev pub HasFirst : Option Files → List ℕ → Type 0
-HasFirst told file = (files : Files) → told ≡ Some files → HasFirstFile files file
-
-audit_of : (files : Files) (file text : List ℕ) → HasFirstFile files file → IsFirstAudit text → IsAuditOf files file act.Quiet text
-audit_of files file text h a = record {
-  system = a.system;
-  of_file = first_gives files file a.system h a.run.linked;
-  history = a.history;
-  complete = a.run.complete;
-  ends = record { last = a.run.ends.last; is_last = a.run.ends.is_last; act = a.run.ends.quiet };
+audit_of : (files : Files) (file text : List ℕ) (s : System) (ending : Act) → IsSystemOf files file s → IsRunText s ending text
+    → IsAuditOf files file ending text
+audit_of files file text s ending h a = record {
+  system = s;
+  of_file = h;
+  history = a.runs.history;
+  complete = a.runs.complete;
+  ends = a.runs.ends;
   text_is = a.text_is;
 }
 
-pub printed_puts : (told : Option Files) (file : List ℕ) (before now : SinkState) (o : Outcome) → HasFirst told file
-    → PutsFirstAudit before now o → PutsFor (command.Run file 1) told before now o
-printed_puts told file before now outcome.Done h p = (p.0, (λ files t. audit_of files file p.0 (h files t) p.1), p.2)
-printed_puts told file before now outcome.SinkFault h p =
-    (outcome.Done, p.0, (λ files t. audit_of files file p.0 (h files t) p.1), p.2)
-printed_puts told file before now outcome.OutOfMemory h p = p
-printed_puts told file before now _ h p = absurd p
+text_of_run : (files : Files) (file : List ℕ) (s : System) (o : Outcome) (text : List ℕ) → IsSystemOf files file s → IsTextOfRun s o text
+    → IsTextOf files (command.Run file 1) o text
+text_of_run files file s outcome.Done text h a = audit_of files file text s act.Quiet h a
+text_of_run files file s outcome.Halted text h a = audit_of files file text s act.Halt h a
+text_of_run files file s _ text h a = absurd a
 
-pub printed_cause : (told : Option Files) (file : List ℕ) (before now : SinkState) (o : Outcome) → HasFirst told file
-    → PutsFirstAudit before now o → HasCauseFor (command.Run file 1) told o
-printed_cause told file before now outcome.Done h p = record { can_end = tt; where_told = h }
-printed_cause told file before now outcome.SinkFault h p = record { can_end = tt; where_told = h }
-printed_cause told file before now outcome.OutOfMemory h p = record { can_end = tt; where_told = λ files t. tt }
-printed_cause told file before now _ h p = absurd p
+due_of_run : (files : Files) (file : List ℕ) (s : System) (o : Outcome) (text : List ℕ) → IsSystemOf files file s → IsTextOfRun s o text
+    → IsDueFor files (command.Run file 1) o
+due_of_run files file s outcome.Done text h a = record { system = s; of_file = h; holds = a.runs }
+due_of_run files file s outcome.Halted text h a = record { system = s; of_file = h; holds = a.runs }
+due_of_run files file s _ text h a = absurd a
 
--- ---- a system that isn't run by now
+whole_of_run : (s : System) (o : Outcome) (text : List ℕ) → IsTextOfRun s o text → IsWhole o
+whole_of_run s outcome.Done text a = tt
+whole_of_run s outcome.Halted text a = tt
+whole_of_run s _ text a = absurd a
 
-abbrev pub IsOther : Option Files → List ℕ → Type 0
-IsOther told file = (files : Files) → told ≡ Some files → HasFirstFile files file → ⊥
+pub ran_puts : (told : Option Files) (file : List ℕ) (s : System) (before now : SinkState) (o : Outcome) → Gives told file s
+    → PutsRun s before now o → PutsFor (command.Run file 1) told before now o
+ran_puts told file s before now outcome.Done h p = (p.0, (λ files t. text_of_run files file s outcome.Done p.0 (h files t) p.1), p.2)
+ran_puts told file s before now outcome.Halted h p = (p.0, (λ files t. text_of_run files file s outcome.Halted p.0 (h files t) p.1), p.2)
+ran_puts told file s before now outcome.SinkFault h p = (p.0, p.1, (λ files t. text_of_run files file s p.0 p.1 (h files t) p.2), p.3)
+ran_puts told file s before now (outcome.NotYet n) h p = p.1
+ran_puts told file s before now outcome.OutOfMemory h p = p
+ran_puts told file s before now _ h p = absurd p
 
-not_yet_of : (files : Files) (file name : List ℕ) (s : System) → name ≡ file → IsSystemOf files file s → (HasFirstFile files file → ⊥)
-    → HasOtherSystem files file name
-not_yet_of files file name s is h other = record { name_is = is; system = (s, h); other = other }
+pub ran_cause : (told : Option Files) (file : List ℕ) (s : System) (before now : SinkState) (o : Outcome) → Gives told file s
+    → PutsRun s before now o → HasCauseFor (command.Run file 1) told o
+ran_cause told file s before now outcome.Done h p =
+    record { can_end = tt; where_told = λ files t. due_of_run files file s outcome.Done p.0 (h files t) p.1 }
+ran_cause told file s before now outcome.Halted h p =
+    record { can_end = tt; where_told = λ files t. due_of_run files file s outcome.Halted p.0 (h files t) p.1 }
+ran_cause told file s before now outcome.SinkFault h p = record {
+  can_end = tt;
+  where_told = λ files t. record {
+    due = p.0;
+    whole = whole_of_run s p.0 p.1 p.2;
+    is_due = due_of_run files file s p.0 p.1 (h files t) p.2;
+  };
+}
+ran_cause told file s before now (outcome.NotYet n) h p =
+    record { can_end = tt; where_told = λ files t. record { system = s; of_file = h files t; holds = p.0 } }
+ran_cause told file s before now outcome.OutOfMemory h p = record { can_end = tt; where_told = λ files t. tt }
+ran_cause told file s before now _ h p = absurd p
 
-pub not_yet_cause : (told : Option Files) (file : List ℕ) (s : System) (o : Outcome) → Gives told file s → IsOther told file → IsNotYet file o
-    → HasCauseFor (command.Run file 1) told o
-not_yet_cause told file s (outcome.NotYet n) h other p =
-    record { can_end = tt; where_told = λ files t. not_yet_of files file n s p (h files t) (other files t) }
-not_yet_cause told file s outcome.OutOfMemory h other p = record { can_end = tt; where_told = λ files t. tt }
-not_yet_cause told file s _ h other p = absurd p
+-- ---- the steps of a run
 
-pub not_yet_puts : (c : Command) (told : Option Files) (file : List ℕ) (now : SinkState) (o : Outcome) → IsNotYet file o
-    → PutsFor c told now now o
-not_yet_puts c told file now (outcome.NotYet n) p = refl
-not_yet_puts c told file now outcome.OutOfMemory p = refl
-not_yet_puts c told file now _ p = absurd p
+-- the whole audit was put
+pub audit_put : (s : System) (history : History) (before now : SinkState) (o : Outcome) → IsSingleWorkerHistory s history → HasSupportedActs history
+    → EndsSo history o → TookWhole before (audit_text s history) now → PutsAudit s before now o
+audit_put s history before now outcome.Done complete supported ends took =
+    (audit_text s history, record { runs = record { history = history; complete = complete; supported = supported; ends = ends }; text_is = refl }, took)
+audit_put s history before now outcome.Halted complete supported ends took =
+    (audit_text s history, record { runs = record { history = history; complete = complete; supported = supported; ends = ends }; text_is = refl }, took)
+audit_put s history before now _ complete supported ends took = absurd ends
+
+pub audit_puts : (s : System) (before now : SinkState) (o : Outcome) → PutsAudit s before now o → PutsRun s before now o
+audit_puts s before now outcome.Done p = p
+audit_puts s before now outcome.Halted p = p
+audit_puts s before now outcome.SinkFault p = p
+audit_puts s before now _ p = absurd p
+
+pub not_yet_puts : (s : System) (now : SinkState) (o : Outcome) → IsNotYet s o → PutsRun s now now o
+not_yet_puts s now (outcome.NotYet n) p = (p, refl)
+not_yet_puts s now outcome.OutOfMemory p = refl
+not_yet_puts s now _ p = absurd p
 
 -- ---- a serial request
 

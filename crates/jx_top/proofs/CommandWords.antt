@@ -7,7 +7,7 @@ use Rattle.std.proofs.lemmas.Bool.{false≢true}
 use Rattle.std.specs.Str.Pattern.{HasSuffixMatch, FindsTextSuffix}
 use Rattle.std.proofs.Common.{sym, ◌∙◌, ap, subst, get_or, drop, arith}
 use Rattle.std.specs.declared.alloc.Global.{Global}
-use Rattle.jx_top.specs.Commands.{AreVerbAndFile, AreVerbAndSystem, EndsInClass, IsClassFileName, IsSystemName, place_word, texts}
+use Rattle.jx_top.specs.Commands.{AreVerbAndFile, EndsInClass, IsClassFileName, IsSystemName, place_word, texts}
 use Rattle.jx_top.proofs.OneCommand.{IsNoVerb, IsNoSystemVerb, first_word, words_behind, one_file}
 
 -- ---- a verb and a file

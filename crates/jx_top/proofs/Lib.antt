@@ -1,14 +1,14 @@
 pub mod Firsts
 pub mod ReadClasses
 pub mod ReadMethods
-pub mod FirstFile
 pub mod OnePlan
 pub mod OneClasses
 pub mod OneStop
+pub mod OneSystem
 pub mod OneOutcome
 pub mod SearchSteps
 pub mod SystemSteps
+pub mod RunEnds
 pub mod CommandSteps
 pub mod OneCommand
 pub mod CommandWords
-pub mod OneSystem

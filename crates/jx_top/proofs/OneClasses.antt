@@ -29,6 +29,7 @@ RefusedView files name o =
 refused_view : (files : Files) (name : List ℕ) (o : Outcome) → IsClassRefused files name o → RefusedView files name o
 refused_view files name (outcome.BadClass n d) p = inl (d, ap (λ (x : List ℕ). outcome.BadClass x d) p.0, p.1)
 refused_view files name outcome.Done p = inr p
+refused_view files name outcome.Halted p = inr p
 refused_view files name outcome.Usage p = inr p
 refused_view files name outcome.ShelfFault p = inr p
 refused_view files name outcome.SinkFault p = inr p

@@ -75,6 +75,7 @@ PlanRefusedView files file o =
 plan_refused_view : (files : Files) (file : List ℕ) (o : Outcome) → IsPlanRefused files file o → PlanRefusedView files file o
 plan_refused_view files file (outcome.BadPlan f) p = inl (f, refl, p)
 plan_refused_view files file outcome.Done p = inr p
+plan_refused_view files file outcome.Halted p = inr p
 plan_refused_view files file outcome.Usage p = inr p
 plan_refused_view files file outcome.ShelfFault p = inr p
 plan_refused_view files file outcome.SinkFault p = inr p

@@ -1,10 +1,10 @@
 -- The methods of a class, whose code is read one after the other.
-use Rattle.std.specs.Prelude.{◌≡◌, refl, ℕ, suc, ◌<◌, ◌^◌, List, [], ◌∷◌, ◌++◌, map, length, take, drop, Option, Some, None, Ok, Err, IfSome}
+use Rattle.std.specs.Prelude.{◌≡◌, refl, ℕ, suc, ◌<◌, List, [], ◌∷◌, ◌++◌, length, take, drop, Option, Some, None, Ok, Err, IfSome}
 use Rattle.std.proofs.Common.{sym, ◌∙◌, ap, subst, get_or, drop-cons, take-suc}
 use Rattle.std.specs.List.{AllByRecursion}
 use Rattle.std.proofs.lemmas.List.{take-append-drop, map-append}
 use Rattle.class_grammar.specs.ReadFiles.{AreBytes, IsReadCode, IsReadFile}
-use Rattle.linker_names.specs.Bodies.{instructions_of_code, instructions_of_member}
+use Rattle.linker_names.specs.Bodies.{instructions_of_code}
 use Rattle.jx_base.specs.declared.class_file.ClassFile.{ClassFile}
 use Rattle.jx_base.specs.declared.class_file.Code.{Code}
 use Rattle.jx_base.specs.declared.class_file.Instr.{Instr}

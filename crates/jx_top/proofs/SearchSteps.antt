@@ -1,5 +1,5 @@
 -- From the steps of the search for a system to the search.
-use Rattle.std.specs.Prelude.{◌≡◌, refl, ℕ, suc, ◌<◌, List, [], ◌∷◌, ◌++◌, length, take, drop, Option, Some, Result, Ok, Err, string_bytes}
+use Rattle.std.specs.Prelude.{◌≡◌, refl, ℕ, suc, ◌<◌, List, [], ◌∷◌, ◌++◌, length, take, drop, Option, Some, Result, Ok, Err}
 use Rattle.std.proofs.Common.{sym, ◌∙◌, ap, subst, get_or, drop-cons, take-suc}
 use Rattle.std.proofs.lemmas.List.{take-append-drop}
 use Rattle.jx_base.specs.Files.{Files}
@@ -43,6 +43,7 @@ caused_so : (Stops More : Outcome → Type 0) (o : Outcome) → ((o : Outcome) �
 caused_so Stops More outcome.ShelfFault f p = tt
 caused_so Stops More outcome.OutOfMemory f p = tt
 caused_so Stops More outcome.Done f p = f outcome.Done p
+caused_so Stops More outcome.Halted f p = f outcome.Halted p
 caused_so Stops More outcome.Usage f p = f outcome.Usage p
 caused_so Stops More outcome.SinkFault f p = f outcome.SinkFault p
 caused_so Stops More (outcome.Missing n) f p = f (outcome.Missing n) p

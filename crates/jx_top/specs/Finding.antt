@@ -1,18 +1,14 @@
 -- The steps of the search for the system of a file word.
-use Rattle.std.specs.Prelude.{◌≡◌, ℕ, true, false, List, [], ◌∷◌, Option, Some, Result, Ok, Err, string_bytes, codes}
+use Rattle.std.specs.Prelude.{◌≡◌, ℕ, List, Option, Some, Result, Ok, Err, string_bytes}
 use Rattle.jx_base.specs.Files.{Files}
 use Rattle.jx_base.specs.declared.class_file.ClassFile.{ClassFile}
 use Rattle.jx_base.specs.declared.program.Plan.{Plan}
 use Rattle.jx_base.specs.declared.program.System.{System}
-use Rattle.first_class.specs.FirstClass.{first_class}
 use Rattle.link_model.specs.LinkFaults.{IsLinked, IsLinkFault}
-use Rattle.system_text.specs.Description.{Describes, IsPlanFault, one_class_plan}
+use Rattle.system_text.specs.Description.{Describes, IsPlanFault}
 use Rattle.jx_top.specs.Outcomes.{Outcome, outcome_of}
 use Rattle.jx_top.specs.Outcomes as outcome
 use Rattle.jx_top.specs.ReadClasses.{IsReadClass, IsBadClass}
-use Rattle.jx_top.specs.Requests.{HasFirstFile}
-use Rattle.jx_top.specs.Systems.{IsSystemOf}
-use Rattle.jx_top.specs.declared.finding.Found.{Found}
 use Rattle.jx_top.specs.declared.status.Status.{Status}
 use Rattle.jx_top.specs.declared.status.Status.TheVariants as status
 
@@ -37,16 +33,6 @@ IsCauseOfStop Stops o = Stops o
 abbrev pub Finds : {A : Type 0} → Option Files → (Files → A → Type 0) → (Files → Outcome → Type 0) → Result A Status → Type 0
 Finds told Found Stops (Ok x) = (files : Files) → told ≡ Some files → Found files x
 Finds told Found Stops (Err s) = CanStop (outcome_of s) × ((files : Files) → told ≡ Some files → IsCauseOfStop (Stops files) (outcome_of s))
-
--- the system of the file, and whether it is the one that is run by now
-pub record IsFoundIn (files : Files) (file : List ℕ) (found : Found) : Type 0 where
-  pub system : IsSystemOf files file found.system
-  pub first : found.is_first ≡ true → HasFirstFile files file
-  pub other : found.is_first ≡ false → HasFirstFile files file → ⊥
-
--- the system is linked from the first class alone, where that is said
-abbrev pub IsFirstWhereSaid : Found → Type 0
-IsFirstWhereSaid found = found.is_first ≡ true → IsLinked (one_class_plan (codes "Hello")) (first_class ∷ []) found.system
 
 -- the class that the bytes are, or why there is none
 abbrev pub HoldsClass : List ℕ → List ℕ → Result ClassFile Status → Type 0

@@ -3,6 +3,7 @@ pub mod Commands
 pub mod ReadClasses
 pub mod GotFiles
 pub mod Systems
+pub mod Runs
 pub mod Headline
 pub mod Assemblies
 pub mod Requests

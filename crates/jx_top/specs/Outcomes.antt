@@ -8,7 +8,7 @@ use Rattle.jx_top.specs.declared.status.Status.{Status}
 use Rattle.jx_top.specs.declared.status.Status.TheVariants as status
 
 pub data Outcome : Type 0 where
-  Done Usage ShelfFault SinkFault OutOfMemory : Outcome
+  Done Halted Usage ShelfFault SinkFault OutOfMemory : Outcome
   Missing TooLong NotYet : (name : List ℕ) → Outcome
   BadPlan : (f : PlanFault) → Outcome
   BadClass : (name : List ℕ) (d : Defect) → Outcome
@@ -17,6 +17,7 @@ pub data Outcome : Type 0 where
 
 abbrev pub outcome_of : Status → Outcome
 outcome_of status.Done = Done
+outcome_of status.Halted = Halted
 outcome_of status.Usage = Usage
 outcome_of status.ShelfFault = ShelfFault
 outcome_of (status.Missing n) = Missing (string_bytes n)

@@ -12,7 +12,7 @@ use Rattle.class_grammar.specs.ClassGrammar.{IsClassFile, IsClassFault}
 use Rattle.class_grammar.specs.CodeGrammar.{IsCodeFault}
 use Rattle.class_grammar.specs.ReadFiles.{IsReadCode}
 use Rattle.linker.specs.Bodies.{IsBody}
-use Rattle.linker_names.specs.Bodies.{instructions_of_code, instructions_of_member}
+use Rattle.linker_names.specs.Bodies.{instructions_of_member}
 use Rattle.jx_top.specs.declared.class_error.ClassError.{ClassError}
 use Rattle.jx_top.specs.declared.class_error.ClassError.TheVariants as error
 use Rattle.jx_top.specs.declared.defect.Defect.{Defect}

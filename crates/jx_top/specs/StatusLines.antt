@@ -95,6 +95,7 @@ status_text (status.BadClass n d) =
 status_text (status.BadLink f) = link_line f
 status_text (status.BadAsm f) = line (codes "jx: bad text line" ∷ decimal f.line ∷ codes "kind" ∷ decimal (asm_kind_number f.kind) ∷ [])
 status_text status.SinkFault = line (codes "jx: sink fault" ∷ [])
+status_text status.Halted = line (codes "jx: halted" ∷ [])
 status_text (status.NotYet n) = line (codes "jx: not yet" ∷ string_bytes n ∷ [])
 status_text status.OutOfMemory = line (codes "jx: out of memory" ∷ [])
 
@@ -112,6 +113,7 @@ status_number (status.BadPlan f) = 5
 status_number (status.BadClass n d) = 6
 status_number (status.BadLink f) = 7
 status_number status.SinkFault = 8
+status_number status.Halted = 9
 status_number (status.BadAsm f) = 10
 status_number (status.TooLong n) = 17
 status_number status.OutOfMemory = 70

@@ -47,7 +47,7 @@ pub fn check_system<L: Shelf, K: Sink>(
     ensures sink { result ≡ Status.SinkFault → HasSinkFailed (K.state sink.old) (K.state sink.new) }
 {
     match find_system(alloc, file, shelf) {
-        Ok(found) => put_counts(&found.system.plan, sink),
+        Ok(system) => put_counts(&system.plan, sink),
         Err(status) => status,
     }
 }

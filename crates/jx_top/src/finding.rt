@@ -1,10 +1,11 @@
 //! From the word of a system's file to the linked system.
-ghost use Rattle.std.specs.Prelude.{◌≡◌, ◌≤◌, ◌^◌, ◌∷◌, [], IfOk, IsErrOf, IsTrue, length, true};
+ghost use Rattle.std.specs.Prelude.{◌≡◌, ◌≤◌, ◌∷◌, [], IfOk, IsErrOf, IsTrue};
 ghost use Rattle.class_grammar.specs.ReadFiles.{IsReadFile};
 ghost use Rattle.jx_base.specs.ClassNames.{is_class_name};
 ghost use Rattle.jx_base.specs.Files.{HasShelfFailed};
 ghost use Rattle.jx_top.specs.Commands.{EndsInClass, IsFileOf, IsSystemName};
-ghost use Rattle.jx_top.specs.Finding.{Finds, HoldsPlan, IsFirstWhereSaid, IsFoundIn, LinksFiles};
+ghost use Rattle.jx_top.specs.Finding.{Finds, HoldsPlan, LinksFiles};
+ghost use Rattle.jx_top.specs.Steps.{WasLinked};
 ghost use Rattle.jx_top.specs.Systems.{IsPlanOf, IsPlanRefused, IsStopped, IsSystemOf};
 ghost use Rattle.link_model.specs.LinkFaults.{HasFiles};
 ghost use Rattle.program_model.specs.Plans.{IsPlanInRange};
@@ -14,19 +15,11 @@ use crate::class_files::{class_of_bytes, fetch_classes};
 use crate::commands::class_of;
 use crate::fetching::fetch_bytes;
 use crate::status::Status;
-use first_class::is_first;
 use jx_base::{Plan, Shelf, System};
 use linker::{LinkError, link_read};
 use linker_names::ReadClass;
 use std::alloc::Global;
 use system_text::{PlanError, one_class, read_system};
-
-/// A linked system, and whether it is the one that is run by now.
-#[derive(Drop)]
-pub struct Found {
-    pub system: System,
-    pub is_first: bool,
-}
 
 fn link_files(alloc: Global, plan: Plan, files: Vec<ReadClass>) -> Result<System, Status>
     requires { HasFiles plan files.items }
@@ -56,19 +49,17 @@ fn class_system<L: Shelf>(
     file: &str,
     name: &str,
     shelf: &mut L,
-) -> Result<Found, Status>
+) -> Result<System, Status>
     requires { IsFileOf file.now name.now }
-    ensures found { Finds (L.state shelf.old).told (λ files found. IsFoundIn files file.now found)
+    ensures system { Finds (L.state shelf.old).told (λ files system. IsSystemOf files file.now system)
         (λ files o. IsStopped files file.now o) result }
-    ensures first { IfOk result IsFirstWhereSaid }
+    ensures linked { IfOk result WasLinked }
     ensures cause { IsErrOf result Status.ShelfFault
         → HasShelfFailed (L.state shelf.old) (L.state shelf.new) }
 {
     let bytes = fetch_bytes(alloc, file, shelf)?;
     let class = class_of_bytes(alloc, name, &bytes)?;
-    let is_first = is_first(file, &bytes);
-    let system = one_class_system(alloc, name, class)?;
-    Ok(Found { system, is_first })
+    one_class_system(alloc, name, class)
 }
 
 fn plan_of_bytes(alloc: Global, bytes: &[u8]) -> Result<Plan, Status>
@@ -102,6 +93,7 @@ fn described_system<L: Shelf>(alloc: Global, file: &str, shelf: &mut L) -> Resul
     requires { EndsInClass file.now → ⊥ }
     ensures system { Finds (L.state shelf.old).told (λ files system. IsSystemOf files file.now system)
         (λ files o. IsStopped files file.now o) result }
+    ensures linked { IfOk result WasLinked }
     ensures cause { IsErrOf result Status.ShelfFault
         → HasShelfFailed (L.state shelf.old) (L.state shelf.new) }
 {
@@ -112,19 +104,16 @@ fn described_system<L: Shelf>(alloc: Global, file: &str, shelf: &mut L) -> Resul
 
 /// The system of the file: of its class where it is that of a class, else the one that it
 /// describes.
-pub fn find_system<L: Shelf>(alloc: Global, file: &str, shelf: &mut L) -> Result<Found, Status>
+pub fn find_system<L: Shelf>(alloc: Global, file: &str, shelf: &mut L) -> Result<System, Status>
     requires { IsSystemName file.now }
-    ensures found { Finds (L.state shelf.old).told (λ files found. IsFoundIn files file.now found)
+    ensures system { Finds (L.state shelf.old).told (λ files system. IsSystemOf files file.now system)
         (λ files o. IsStopped files file.now o) result }
-    ensures first { IfOk result IsFirstWhereSaid }
+    ensures linked { IfOk result WasLinked }
     ensures cause { IsErrOf result Status.ShelfFault
         → HasShelfFailed (L.state shelf.old) (L.state shelf.new) }
 {
     match class_of(file) {
         Some(name) => class_system(alloc, file, name, shelf),
-        None => Ok(Found {
-            system: described_system(alloc, file, shelf)?,
-            is_first: false,
-        }),
+        None => described_system(alloc, file, shelf),
     }
 }

@@ -8,9 +8,10 @@ use link_model::LinkFault;
 use std::alloc::{AllocError, AllocFailed};
 use system_text::PlanFault;
 
-/// How a command ended. `Missing`, `TooLong` and `NotYet` carry the name of a file, `BadClass` that
-/// of a class; `BadPlan`, `BadLink` and `BadAsm` the first fault of a description, of linking, and
-/// of an assembler text.
+/// How a command ended. `Missing` and `TooLong` carry the name of a file, `BadClass` that of a
+/// class; `BadPlan`, `BadLink` and `BadAsm` the first fault of a description, of linking, and of an
+/// assembler text. A run is `Done` where it ends in quiet, and `Halted` where the journal is full.
+/// `NotYet` carries the name of the main class of a domain that came to an act without code.
 #[derive(Drop)]
 pub enum Status {
     Done,
@@ -23,6 +24,7 @@ pub enum Status {
     BadLink(LinkFault),
     BadAsm(AsmFault),
     SinkFault,
+    Halted,
     NotYet(String),
     OutOfMemory,
 }

@@ -27,6 +27,7 @@ pub fn status_number(status: &Status) -> u8
         Status::BadClass(_, _) => 6,
         Status::BadLink(_) => 7,
         Status::SinkFault => 8,
+        Status::Halted => 9,
         Status::BadAsm(_) => 10,
         Status::TooLong(_) => 17,
         Status::OutOfMemory => 70,
@@ -174,6 +175,7 @@ pub fn status_line<K: Sink>(status: &Status, sink: &mut K) -> Result<(), Failed>
             sink,
         ),
         Status::SinkFault => put_line(&[Plain("jx: sink fault")], sink),
+        Status::Halted => put_line(&[Plain("jx: halted")], sink),
         Status::NotYet(name) => put_line(&[Plain("jx: not yet"), Plain(name.as_str())], sink),
         Status::OutOfMemory => put_line(&[Plain("jx: out of memory")], sink),
     }

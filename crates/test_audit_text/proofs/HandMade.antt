@@ -5,7 +5,7 @@ use Rattle.std.proofs.Common.{arith, subst, sym, inl}
 use Rattle.jx_base.specs.declared.act.Entry.{Entry}
 use Rattle.jx_base.specs.declared.act.History.{History}
 use Rattle.jx_base.specs.declared.program.System.{System}
-use Rattle.audit_text.specs.Rendering.{HasSupportedActs}
+use Rattle.supported_acts.specs.SupportedActs.{HasSupportedActs}
 use Rattle.jx_model.specs.Legal.{IsAdmitted}
 use Rattle.opened_models.specs.Opened.{opened_model}
 use Rattle.test_audit_text.specs.HandMade.{small_template, small_system, plain_entry, odd_text, hand_made}

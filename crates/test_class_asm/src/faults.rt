@@ -1,8 +1,8 @@
 //! The first faulty line of a text, and the kind of its fault.
 
 use crate::answers::{Told, assembled, told, with_body};
-use first_class::FIRST_CLASS;
 use std::test::Fail;
+use test_files::HELLO_CLASS;
 
 const WORD: u8 = 1;
 
@@ -29,7 +29,7 @@ fn the_first_class_is_assembled(rt: HostRuntime) {
     let Some(bytes) = assembled(alloc, FIRST_TEXT) else {
         panic!(rt; "the text is assembled");
     };
-    assert_eq!(rt; bytes.as_slice(), FIRST_CLASS.as_slice());
+    assert_eq!(rt; bytes.as_slice(), HELLO_CLASS.as_slice());
 }
 
 // Whole texts.

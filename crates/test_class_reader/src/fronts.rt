@@ -1,10 +1,10 @@
 //! The first class, cut off, with a byte more, and with other bytes at its front.
 
 use crate::parts::{bytes_of, first_fault};
-use first_class::FIRST_CLASS;
 use jx_base::{ClassKind, OutOfMemory};
 use std::alloc::Global;
 use std::test::Fail;
+use test_files::HELLO_CLASS;
 
 // Each with the place of the other bytes.
 static PATCHES: [(&str, usize, &str, Option<(u32, ClassKind)>); 14] = [
@@ -52,7 +52,7 @@ static PATCHES: [(&str, usize, &str, Option<(u32, ClassKind)>); 14] = [
 // The first class with other bytes at a place.
 fn patched(alloc: Global, place: usize, hex: &str) -> Result<Vec<u8>, OutOfMemory> {
     let patch = bytes_of(alloc, hex)?;
-    let mut bytes = Vec::from_slice(alloc, &FIRST_CLASS)?;
+    let mut bytes = Vec::from_slice(alloc, &HELLO_CLASS)?;
     for (byte, other) in bytes.iter_mut().skip(place).zip(patch.iter()) {
         *byte = *other;
     }
@@ -67,10 +67,10 @@ fn first_class_has_these_first_faults_when_it_is_changed(rt: HostRuntime) -> Res
         assert_eq!(rt; first_fault(alloc, bytes.as_slice())?, *want, "{name}");
     }
     for k in 0..191 {
-        let cut = first_fault(alloc, &FIRST_CLASS[..k as usize])?;
+        let cut = first_fault(alloc, &HELLO_CLASS[..k as usize])?;
         assert_eq!(rt; cut, Some((k, ClassKind::Truncated)), "{k} bytes");
     }
-    let mut longer = Vec::from_slice(alloc, &FIRST_CLASS)?;
+    let mut longer = Vec::from_slice(alloc, &HELLO_CLASS)?;
     longer.push(0)?;
     let fault = first_fault(alloc, longer.as_slice())?;
     assert_eq!(rt; fault, Some((191, ClassKind::Trailing)));

@@ -9,7 +9,6 @@ mod constants;
 mod descriptors;
 #[cfg(test)]
 mod fronts;
-mod javac_class;
 #[cfg(test)]
 mod members;
 #[cfg(test)]
@@ -18,5 +17,3 @@ mod parts;
 mod texts;
 #[cfg(test)]
 mod whole;
-
-pub use javac_class::JAVAC_CLASS;

@@ -1,12 +1,11 @@
 //! What the class file of the bytes is.
 
-use crate::javac_class::JAVAC_CLASS;
 use crate::parts::{NO_MEMBERS, class_of, read};
-use first_class::FIRST_CLASS;
 use jx_base::{ClassFile, Code, Constant, Member, text_of};
 use std::alloc::Global;
 use std::process::Abort;
 use std::test::Fail;
+use test_files::{HELLO_CLASS, JAVAC_CLASS};
 
 // Asserts the numbers of a class file: the minor and major version, the constant count, the flags,
 // this and the super class, and how many interfaces, fields and methods there are.
@@ -63,7 +62,7 @@ fn try_method(
 }
 
 fn try_first_class(rt: &impl Abort, alloc: Global) -> Result<(), Fail> {
-    let file = read(alloc, &FIRST_CLASS)?;
+    let file = read(alloc, &HELLO_CLASS)?;
     try_numbers(rt, &file, [0, 52, 16, 33, 2, 4, 0, 0, 1]);
     let named = (9, "main", "([Ljava/lang/String;)V");
     let code = [18, 9, 184, 0, 15, 177];

@@ -1,16 +1,12 @@
 //! Assemblies of texts.
 
 use crate::first_run::{Case, File, line, shelf};
-use first_class::FIRST_CLASS;
 use jx_base::MemorySink;
 use jx_top::{Request, jx_serial, status_number};
 use std::test::Fail;
+use test_files::{HELLO_CLASS, HELLO_TEXT};
 
-// The text of the class that prints `hi`.
-const HELLO: &[u8] =
-    b"class 0x0021 Hello java/lang/Object\nmethod 0x0009 main ([Ljava/lang/String;)V 1 1\nldc string \"hi\"\ninvokestatic jx/Zero print (Ljava/lang/String;)V\nreturn\nend\n";
-
-const TEXT: File = ("text", 0, HELLO);
+const TEXT: File = ("text", 0, HELLO_TEXT);
 
 /// Calls whose word for a file is not that of the text.
 pub static ASSEMBLIES: [Case; 16] = [
@@ -50,7 +46,7 @@ pub static ASSEMBLIES: [Case; 16] = [
 fn texts_are_assembled_or_told_bad(rt: HostRuntime) -> Result<(), Fail> {
     let alloc = rt.alloc();
     for (text, number, said, bytes) in [
-        (HELLO, 0, "", FIRST_CLASS.as_slice()),
+        (HELLO_TEXT, 0, "", HELLO_CLASS.as_slice()),
         (b"class", 10, "jx: bad text line 1 kind 2\n", &[]),
         (b"nonsense\n", 10, "jx: bad text line 1 kind 1\n", &[]),
     ] {

@@ -3,11 +3,11 @@
 use crate::assemblies::ASSEMBLIES;
 use crate::bad_classes::BAD_CLASSES;
 use crate::systems::SYSTEMS;
-use first_class::FIRST_CLASS;
 use jx_base::{MemoryShelf, MemorySink, OpenGate, OutOfMemory};
 use jx_top::{Request, Status, jx_main, jx_serial, status_line, status_number};
 use std::alloc::Global;
 use std::test::Fail;
+use test_files::HELLO_CLASS;
 
 /// A name, and as bytes so many of the first class with these behind them.
 pub type File = (&'static str, usize, &'static [u8]);
@@ -26,7 +26,8 @@ pub type Case = (
 /// The words that run the first class.
 pub const RUN: &[&str] = &["run", "Hello.class"];
 
-const FIRST_AUDIT: &str =
+/// The audit of the first class.
+pub const FIRST_AUDIT: &str =
     "jx audit 1\n1 0 0 create \"main\" -> domain 1 at 0\n2 1 0 print \"hi\" -> done\n3 1 0 end-thread -> done\n4 0 0 quiet -> done\nconsole\n1 \"hi\"\ndomains\n1 \"main\" by 0 live\ncalls\nmemory 128 of 16384\nwords 26 of 1048576\nend quiet\n";
 
 static RUNS: [Case; 18] = [
@@ -192,7 +193,7 @@ static FRONT_PUT: [Case; 1] = [(
 pub fn shelf(alloc: Global, file: File, failing: &[u32]) -> Result<MemoryShelf, OutOfMemory> {
     let (name, len, more) = file;
     let mut bytes = Vec::new(alloc);
-    for byte in FIRST_CLASS.iter().take(len) {
+    for byte in HELLO_CLASS.iter().take(len) {
         bytes.push(*byte)?;
     }
     bytes.extend_from_slice(more)?;
@@ -208,7 +209,8 @@ pub fn line(alloc: Global, status: &Status) -> Result<Vec<u8>, OutOfMemory> {
     Vec::from_slice(alloc, sink.bytes())
 }
 
-fn strings(alloc: Global, words: &[&str]) -> Result<Vec<String>, OutOfMemory> {
+/// The words.
+pub fn strings(alloc: Global, words: &[&str]) -> Result<Vec<String>, OutOfMemory> {
     let mut strings = Vec::new(alloc);
     for word in words {
         strings.push(String::from_str(alloc, word)?)?;

@@ -11,3 +11,5 @@ mod first_run;
 mod forms;
 #[cfg(test)]
 mod systems;
+#[cfg(test)]
+mod whole_runs;

@@ -1,7 +1,7 @@
-//! Checks of systems, and runs of those that aren't run by now.
+//! Checks of systems, and runs of some.
 
-use crate::first_run::{Case, File, RUN};
-use test_class_reader::JAVAC_CLASS;
+use crate::first_run::{Case, FIRST_AUDIT, File, RUN};
+use test_files::JAVAC_CLASS;
 
 // The first class, whose code is five times nothing and a return.
 const IDLE: File = ("Hello.class", 179, &[0, 0, 0, 0, 0, 0xb1, 0, 0, 0, 0, 0, 0]);
@@ -36,11 +36,14 @@ const NO_DOMAINS: File = ("plan", 0, b"granules = 1\n");
 // The same class as javac lays it out.
 const JAVAC: File = ("Hello.class", 0, &JAVAC_CLASS);
 
+const IDLE_AUDIT: &str =
+    "jx audit 1\n1 0 0 create \"main\" -> domain 1 at 0\n2 1 0 end-thread -> done\n3 0 0 quiet -> done\nconsole\ndomains\n1 \"main\" by 0 live\ncalls\nmemory 128 of 16384\nwords 16 of 1048576\nend quiet\n";
+
 const CHECK: &[&str] = &["check", "Hello.class"];
 
 const CHECK_PLAN: &[&str] = &["check", "plan"];
 
-/// The lines of `check`, and those of a run that says why there is none.
+/// The lines of `check`, audits, and the lines of a run that say why there is none.
 pub static SYSTEMS: [Case; 17] = [
     (CHECK, HELLO, &[], 0, "", "ok 1 1\n"),
     (CHECK, IDLE, &[], 0, "", "ok 1 1\n"),
@@ -98,15 +101,8 @@ pub static SYSTEMS: [Case; 17] = [
         "",
     ),
     (&["check"], HELLO, &[], 2, "jx: usage\n", ""),
-    (RUN, IDLE, &[], 99, "jx: not yet Hello.class\n", ""),
-    (
-        &["run", "plan"],
-        NO_DOMAINS,
-        &[],
-        99,
-        "jx: not yet plan\n",
-        "",
-    ),
+    (RUN, IDLE, &[], 0, "", IDLE_AUDIT),
+    (RUN, JAVAC, &[], 0, "", FIRST_AUDIT),
     (
         &["run", "plan"],
         ("plan", 0, b"granules = 0\n"),

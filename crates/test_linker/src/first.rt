@@ -4,14 +4,14 @@ use crate::answers::Shown::{self, Above, Constants, Counts, Fields, Whole};
 use crate::answers::answer;
 use crate::files::{Unlinked, file_of};
 use crate::reading::linked_files;
-use first_class::FIRST_CLASS;
 use jx_base::System;
 use std::alloc::Global;
 use std::test::Fail;
+use test_files::HELLO_CLASS;
 
 // The system of the class Hello with a byte changed.
 fn linked_with(alloc: Global, at: usize, byte: u8) -> Result<System, Unlinked> {
-    let mut bytes = FIRST_CLASS;
+    let mut bytes = HELLO_CLASS;
     if let Some(place) = bytes.get_mut(at) {
         *place = byte;
     }

@@ -3,7 +3,7 @@ use Rattle.std.specs.Prelude.{◌≡◌, refl, [], ◌∷◌, codes}
 use Rattle.std.specs.Fmt.{digits}
 use Rattle.jx_base.specs.declared.program.System.{System}
 use Rattle.opened_models.specs.Opened.{opened_model}
-use Rattle.first_class.proofs.TestSystems.{texts, audit_of, built_in}
+use Rattle.test_models.proofs.TestSystems.{texts, audit_of, built_in}
 
 -- a machine of one granule
 abbrev pub empty_system : System

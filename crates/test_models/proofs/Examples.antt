@@ -13,8 +13,8 @@ use Rattle.machine_model.specs.State.{State, Core}
 use Rattle.machine_model.specs.MachineThreads.{thread_at, core_of}
 use Rattle.program_model.specs.Parcels.{HeapObject}
 use Rattle.opened_models.specs.Opened.{opened_model}
-use Rattle.first_class.proofs.HelloLinked.{all_none, all_one, all_two}
-use Rattle.first_class.proofs.Hello.{hello_plan, hello_file, hello_system, hello_links, hello_is_good, instr}
+use Rattle.test_models.proofs.HelloLinked.{all_none, all_one, all_two}
+use Rattle.test_models.proofs.Hello.{hello_plan, hello_file, hello_system, hello_links, hello_is_good, instr}
 use Rattle.std.specs.Option.{option_map}
 
 -- ---- the start

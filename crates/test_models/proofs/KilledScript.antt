@@ -4,7 +4,7 @@ use Rattle.std.specs.Fmt.{digits}
 use Rattle.jx_base.specs.declared.act.Act.TheVariants as act
 use Rattle.jx_base.specs.declared.program.System.{System}
 use Rattle.opened_models.specs.Opened.{opened_model}
-use Rattle.first_class.proofs.TestSystems.{texts}
+use Rattle.test_models.proofs.TestSystems.{texts}
 use Rattle.test_models.proofs.Steps.{Step, step_lines, past_after_steps, two, boots, serves, poke, put_method, service, object, call, memory}
 
 abbrev forty : System

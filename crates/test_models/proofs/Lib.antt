@@ -1,3 +1,11 @@
+pub mod TestSystems
+pub mod Hello
+pub mod HelloRead
+pub mod HelloLinked
+pub mod FirstClass
+pub mod FirstRead
+pub mod FirstComplete
+pub mod FirstSystem
 pub mod NumericCases
 pub mod Programs
 pub mod MachineCases

@@ -7,7 +7,7 @@ use Rattle.jx_base.specs.declared.value.Word.TheVariants as word
 use Rattle.machine_model.specs.Machine.{Does, Idle}
 use Rattle.machine_model.specs.BuiltInMethods.{is_short}
 use Rattle.opened_models.specs.Opened.{opened_model}
-use Rattle.first_class.proofs.Hello.{hello_system}
+use Rattle.test_models.proofs.Hello.{hello_system}
 use Rattle.test_models.proofs.Programs.{class, code_of, method_of, program_with, main_of, main_with, entry, first_act, then_act, ends_with, ends, bad_code, no_fuel, exits}
 use Rattle.program_model.specs.Ranges.{is_service_name}
 

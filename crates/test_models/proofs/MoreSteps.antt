@@ -7,7 +7,7 @@ use Rattle.jx_base.specs.declared.value.Parcel.{Parcel}
 use Rattle.jx_base.specs.declared.value.Word.TheVariants as word
 use Rattle.jx_base.specs.declared.program.System.{System}
 use Rattle.opened_models.specs.Opened.{opened_model}
-use Rattle.first_class.proofs.TestSystems.{class_of, built_in, array_of, texts}
+use Rattle.test_models.proofs.TestSystems.{class_of, built_in, array_of, texts}
 use Rattle.test_models.proofs.Steps.{Step, step_lines, steps_system, poke_class, boots, one, object, service, call, poke, poke_method, put_method, nulls, empty, memory}
 
 -- as for the other steps, with a class that no template lists and a method of no interface

@@ -13,7 +13,7 @@ use Rattle.jx_base.specs.declared.program.Resolved.TheVariants as resolved
 use Rattle.jx_base.specs.declared.program.System.{System}
 use Rattle.program_model.specs.BuiltIn.{built_in_table, built_in_class, array_class}
 use Rattle.machine_model.specs.Machine.{NextAct, Does, next_act}
-use Rattle.first_class.proofs.Hello.{hello_class, hello_method, hello_system, built_in_methods, built_in_selectors, selector}
+use Rattle.test_models.proofs.Hello.{hello_class, hello_method, hello_system, built_in_methods, built_in_selectors, selector}
 use Rattle.jx_base.specs.declared.act.Act.TheVariants as act
 use Rattle.jx_base.specs.declared.act.Reply.TheVariants as reply
 use Rattle.jx_base.specs.declared.act.Reason.TheVariants as reason

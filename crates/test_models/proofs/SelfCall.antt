@@ -5,7 +5,7 @@ use Rattle.jx_base.specs.declared.program.System.{System}
 use Rattle.jx_base.specs.declared.program.Class.{Class}
 use Rattle.jx_base.specs.declared.program.Resolved.TheVariants as resolved
 use Rattle.opened_models.specs.Opened.{opened_model}
-use Rattle.first_class.proofs.TestSystems.{built_in, class_of, array_of, native_in, method_in, code_of, plain_init, texts, audit_of}
+use Rattle.test_models.proofs.TestSystems.{built_in, class_of, array_of, native_in, method_in, code_of, plain_init, texts, audit_of}
 
 -- new Impl; dup; <init>; ldc "Self"; iconst_1; export; checkcast Self; dup; putstatic p; run; return
 abbrev pub self_main : List ℕ

@@ -24,7 +24,7 @@ use Rattle.jx_model.specs.Replies.{reply_to}
 use Rattle.jx_model.specs.SingleWorker.{entry_for}
 use Rattle.jx_base.specs.Texts.{line}
 use Rattle.audit_model.specs.Audit.{act_word, act_operands, reply_word, reply_operands}
-use Rattle.first_class.proofs.TestSystems.{class_of, built_in, array_of, texts}
+use Rattle.test_models.proofs.TestSystems.{class_of, built_in, array_of, texts}
 
 -- ---- steps as text
 

@@ -6,7 +6,7 @@ use Rattle.jx_base.specs.declared.program.Template.{Template}
 use Rattle.jx_base.specs.declared.program.Class.{Class}
 use Rattle.jx_base.specs.declared.program.Resolved.TheVariants as resolved
 use Rattle.opened_models.specs.Opened.{opened_model}
-use Rattle.first_class.proofs.TestSystems.{built_in_full, class_of, array_of, native_in, method_in, code_of, plain_init, texts, audit_of}
+use Rattle.test_models.proofs.TestSystems.{built_in_full, class_of, array_of, native_in, method_in, code_of, plain_init, texts, audit_of}
 
 abbrev pub node_class : Class
 node_class =

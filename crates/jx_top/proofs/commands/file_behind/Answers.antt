@@ -1,4 +1,4 @@
-use Rattle.std.proofs.Common.{◌≡◌, ◌∙◌, ap, sym, subst, drop, List, ℕ, ◌∷◌, ◌-◌, length, take, arith}
+use Rattle.std.proofs.Common.{◌∙◌, ap, sym, subst, drop, List, ℕ, ◌-◌, length, arith}
 use Rattle.std.specs.Prelude.{string_bytes}
 use Rattle.jx_top.specs.Commands.{AreVerbAndFile, place_word, texts}
 use Rattle.jx_top.proofs.CommandWords.{alike, is_filled, rest_texts, split_texts, verb_and_file}

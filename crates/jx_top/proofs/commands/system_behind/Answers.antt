@@ -1,4 +1,4 @@
-use Rattle.jx_top.proofs.CommandWords.{no_system, other_file}
+use Rattle.jx_top.proofs.CommandWords.{no_system}
 use Rattle.jx_top.proofs.commands.system_behind.Goals as goal
 
 pub returns-in_err-file : goal.returns-in_err-file

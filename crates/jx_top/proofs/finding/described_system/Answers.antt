@@ -5,7 +5,7 @@ use Rattle.jx_base.specs.Files.{Files}
 use Rattle.std.proofs.lemmas.Result.{err_from_is_err_and}
 use Rattle.jx_top.specs.Systems.{IsPlanOf, IsPlanRefused, HaveClasses, HasRefusedClass, IsSystemOf, IsStopped, at_plan}
 use Rattle.jx_top.proofs.SearchSteps.{stops_so}
-use Rattle.jx_top.proofs.SystemSteps.{links, classes_stop, plan_parts}
+use Rattle.jx_top.proofs.SystemSteps.{links, classes_stop, plan_parts, was_linked}
 use Rattle.jx_top.proofs.finding.described_system.Goals as goal
 
 pub returns-in_err-plan-clause-system : goal.returns-in_err-plan-clause-system
@@ -35,3 +35,6 @@ returns-clause-system g c =
     let plan = c.in_ok-plan.plan in
     let have = rw (c.as_slice.ensures, c.in_ok-plan.ensures.same) at c.in_ok-classes.ensures.classes in
     links told file plan _ _ (plan_parts told file plan _ c.in_ok-plan.ensures.plan have) c.link_files.ensures
+
+pub returns-clause-linked : goal.returns-clause-linked
+returns-clause-linked g c = was_linked c.in_ok-plan.plan _ _ c.link_files.ensures

@@ -1,6 +1,6 @@
 use Rattle.std.proofs.Common.{arith}
 use Rattle.std.proofs.lemmas.Result.{err_from_is_err_and}
-use Rattle.jx_top.proofs.ReadMethods.{first_bad, more_bodies}
+use Rattle.jx_top.proofs.ReadMethods.{first_bad}
 use Rattle.jx_top.proofs.read_classes.read_methods.Goals as goal
 
 pub returns-in_err-read_method : goal.returns-in_err-read_method

@@ -1,6 +1,4 @@
-use Rattle.std.proofs.Common.{arith}
 use Rattle.class_grammar.proofs.CodeLengths.{has_short_codes}
-use Rattle.jx_top.proofs.ReadMethods.{bytes_fit, read_file}
 use Rattle.jx_top.proofs.read_classes.read_whole.Goals as goal
 
 pub read_methods-requires : goal.read_methods-requires

@@ -28,3 +28,7 @@ unfolding piece_text
 returns-in-BadAsm g c =
     let put = rw (c.from-in-BadAsm.ensures, c.from-in-BadAsm-2.ensures, c.asm_kind_number.ensures) at c.put_line-in-BadAsm.ensures in
     rw c.in-BadAsm.is put
+
+pub returns-in-Halted : goal.returns-in-Halted
+unfolding piece_text
+returns-in-Halted g c = rw c.in-Halted.is c.put_line-in-Halted.ensures

@@ -1,3 +1,0 @@
-pub mod FirstClass
-pub mod FirstSystem
-pub mod ByNow

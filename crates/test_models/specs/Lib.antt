@@ -1,0 +1,2 @@
+pub mod FirstClass
+pub mod FirstSystem
