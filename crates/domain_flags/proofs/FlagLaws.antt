@@ -1,6 +1,7 @@
 -- Lists of flags.
-use Rattle.std.proofs.Common.{◌≡◌, refl, sym, ◌∙◌, ap, ℕ, zero, suc, ◌+◌, ◌-◌, ◌<◌, ◌≤◌, ◌==◌, Bool, true, false, List, [], ◌∷◌, map, set, replicate, slice_get, arith}
+use Rattle.std.proofs.Common.{◌≡◌, refl, sym, ◌∙◌, ap, ℕ, zero, suc, ◌+◌, ◌-◌, ◌<◌, ◌≤◌, ◌==◌, Bool, true, false, List, [], ◌∷◌, map, set, replicate, length, slice_get, Option, Some, None, arith}
 use Rattle.std.specs.List.{range_with_len}
+use Rattle.std.proofs.lemmas.Option.{slice_get_within}
 use Rattle.jx_base.specs.Basics.{numbered, passes}
 use Rattle.table_reads.specs.TableReads.{flag_at}
 use Rattle.jx_base.proofs.BasicLaws.{ap2}
@@ -41,3 +42,12 @@ pub no_flag : (flags : List Bool) (d : ℕ) → (1 ≤ d → ⊥) → false ≡ 
 unfolding numbered passes
 no_flag flags zero n = refl
 no_flag flags (suc d) n = absurd (n (omega arith))
+
+-- a flag that is set stands in its list
+pub set_within : (flags : List Bool) (i : ℕ) → passes is_set (slice_get flags i) ≡ true → i < length flags
+unfolding passes
+set_within flags i h = by (slice_get flags i) refl h
+  where
+    by : (o : Option Bool) → slice_get flags i ≡ o → passes is_set o ≡ true → i < length flags
+    by None q h = cc
+    by (Some b) q h = slice_get_within flags i b q

@@ -1,5 +1,5 @@
 //! A flag for each domain.
-ghost use Rattle.std.specs.Prelude.{◌≡◌, false, replicate, slice_get};
+ghost use Rattle.std.specs.Prelude.{◌≡◌, false, replicate, slice_get, true};
 ghost use Rattle.std.specs.List.{list_any};
 ghost use Rattle.domain_flags.specs.FlagLists.{IsDomain, only_flag, with_flag};
 ghost use Rattle.jx_base.specs.Basics.{numbered, passes};
@@ -54,7 +54,8 @@ impl DomainFlags {
 
     /// Whether the flag of the domain is set.
     pub fn is_set(&self, domain: u32) -> bool
-        ensures { result ≡ flag_at self.now.flags domain }
+        ensures flag { result ≡ flag_at self.now.flags domain }
+        ensures domain { result ≡ true → IsDomain domain }
     {
         match domain.checked_sub(1) {
             Some(place) => is_set_at(&self.flags, place as usize),

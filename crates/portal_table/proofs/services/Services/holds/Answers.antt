@@ -9,7 +9,7 @@ use Rattle.portal_table.proofs.services.Services.holds.Goals as goal
 pub returns-in-Some : goal.returns-in-Some
 unfolding passes
 returns-in-Some c =
-    c.is_set.ensures ∙ ap (passes (λ (s : ServiceRecord). flag_at s.holders c.args.domain.0)) (ap (option_map record_of) (sym c.in-Some.is) ∙ c.get.ensures)
+    c.is_set.ensures.flag ∙ ap (passes (λ (s : ServiceRecord). flag_at s.holders c.args.domain.0)) (ap (option_map record_of) (sym c.in-Some.is) ∙ c.get.ensures)
 
 pub returns-in-None : goal.returns-in-None
 unfolding passes

@@ -15,9 +15,9 @@ returns-in_err-owner-clause-service c =
 pub returns-then-is_set-clause-service : goal.returns-then-is_set-clause-service
 returns-then-is_set-clause-service c =
     sym (live_found c.args.self.now c.args.service.0 c.in_ok-owner.field-0 true (sym c.get.ensures ∙ ap (option_map record_of) c.in_ok-owner.was)
-    (ap (λ (x : ServicesState). flag_at x.ended c.in_ok-owner.field-0.owner.0) (sym c.self.view_is) ∙ sym c.is_set.ensures ∙ c.if-is_set.true))
+    (ap (λ (x : ServicesState). flag_at x.ended c.in_ok-owner.field-0.owner.0) (sym c.self.view_is) ∙ sym c.is_set.ensures.flag ∙ c.if-is_set.true))
 
 pub returns-clause-service : goal.returns-clause-service
 returns-clause-service c =
     sym (live_found c.args.self.now c.args.service.0 c.in_ok-owner.field-0 false (sym c.get.ensures ∙ ap (option_map record_of) c.in_ok-owner.was)
-    (ap (λ (x : ServicesState). flag_at x.ended c.in_ok-owner.field-0.owner.0) (sym c.self.view_is) ∙ sym c.is_set.ensures ∙ c.if-is_set.false))
+    (ap (λ (x : ServicesState). flag_at x.ended c.in_ok-owner.field-0.owner.0) (sym c.self.view_is) ∙ sym c.is_set.ensures.flag ∙ c.if-is_set.false))
