@@ -12,6 +12,8 @@ mod domains;
 #[cfg(test)]
 mod journals;
 #[cfg(test)]
+mod memory;
+#[cfg(test)]
 mod prints;
 #[cfg(test)]
 mod service_desk;

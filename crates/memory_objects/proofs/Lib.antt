@@ -1,0 +1,9 @@
+pub mod RowLists
+pub mod UsedExtents
+pub mod Tree
+pub mod Nodes
+pub mod RangeFacts
+pub mod Invariant
+pub mod HeldParts
+pub mod Joins
+pub mod MadeParts

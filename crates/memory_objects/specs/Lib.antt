@@ -1,0 +1,4 @@
+pub mod Inner
+pub mod ObjectLists
+pub mod Rows
+pub mod Ranges
