@@ -6,4 +6,5 @@ pub mod Sums
 pub mod UsedGranules
 pub mod JournalWords
 pub mod LastEntry
+pub mod ReasonTable
 pub mod AuditParts

@@ -123,26 +123,18 @@ unfolding reason_if
 reason_for-other e d h other = let test : (e.domain.0 == d) ≡ false = ne_eqb e.domain.0 d other in reason_for-supported e d h ∙ rw test refl
 
 -- the entries up to one more, the newest first
-end_reason-last : (entries : List Entry) (place : ℕ) (x : Entry) (d : ℕ) → x ≡ get_or entries place x → place < length entries →
+pub taken_one_more : (entries : List Entry) (place : ℕ) (x : Entry) → x ≡ get_or entries place x → place < length entries →
     reverse (take (place + 1) entries) ≡ x ∷ reverse (take place entries)
-end_reason-last entries place x d is lt =
+taken_one_more entries place x is lt =
     rw (take_more entries place x lt, ← is, reverse-append (take place entries) (x ∷ [])) refl
 
-reason_first : (x : Entry) (past : Past) (d : ℕ) (why : Reason) → reason_for (ended_by x) d ≡ Some why → end_reason (x ∷ past) d ≡ Some why
+pub reason_first : (x : Entry) (past : Past) (d : ℕ) (why : Reason) → reason_for (ended_by x) d ≡ Some why → end_reason (x ∷ past) d ≡ Some why
 unfolding end_reason
 reason_first x past d why found = rw (found, end_reason) refl
 
-reason_before : (x : Entry) (past : Past) (d : ℕ) → reason_for (ended_by x) d ≡ None → end_reason (x ∷ past) d ≡ end_reason past d
+pub reason_before : (x : Entry) (past : Past) (d : ℕ) → reason_for (ended_by x) d ≡ None → end_reason (x ∷ past) d ≡ end_reason past d
 unfolding end_reason
 reason_before x past d none = rw (none, end_reason) refl
-
-pub end_reason-found : (entries : List Entry) (place : ℕ) (x : Entry) (d : ℕ) (why : Reason) → x ≡ get_or entries place x → place < length entries →
-    reason_for (ended_by x) d ≡ Some why → end_reason (reverse (take (place + 1) entries)) d ≡ Some why
-end_reason-found entries place x d why is lt found = rw (end_reason-last entries place x d is lt) (reason_first x (reverse (take place entries)) d why found)
-
-pub end_reason-same : (entries : List Entry) (place : ℕ) (x : Entry) (d : ℕ) → x ≡ get_or entries place x → place < length entries →
-    reason_for (ended_by x) d ≡ None → end_reason (reverse (take (place + 1) entries)) d ≡ end_reason (reverse (take place entries)) d
-end_reason-same entries place x d is lt none = rw (end_reason-last entries place x d is lt) (reason_before x (reverse (take place entries)) d none)
 
 no_call : (a : Act) → IsSupported a → asked_by a ≡ None
 unfolding is_supported asked_by

@@ -1,5 +1,5 @@
 -- Entries whose acts have code, and the words of their lines.
-use Rattle.std.specs.Prelude.{ℕ, ◌+◌, List, [], ◌∷◌, ◌++◌, Option, Some, None, codes, decimal}
+use Rattle.std.specs.Prelude.{ℕ, ◌+◌, ◌≡◌, ◌≤◌, List, [], ◌∷◌, ◌++◌, Option, Some, None, codes, decimal, set, slice_get}
 use Rattle.std.specs.List.{flat_map}
 use Rattle.jx_base.specs.declared.act.Act.{Act}
 use Rattle.jx_base.specs.declared.act.Act.TheVariants as act
@@ -9,9 +9,11 @@ use Rattle.jx_base.specs.declared.act.Reason.TheVariants as reason
 use Rattle.jx_base.specs.declared.act.Reply.{Reply}
 use Rattle.jx_base.specs.declared.act.Reply.TheVariants as reply
 use Rattle.jx_base.specs.declared.program.System.{System}
+use Rattle.jx_base.specs.Histories.{Past}
 use Rattle.jx_base.specs.Texts.{after_space, spaced}
 use Rattle.audit_model.specs.Audit.{template_text, act_word, act_operands, reply_word, reply_operands}
 use Rattle.audit_model.specs.AuditText.{standing_words}
+use Rattle.jx_model.specs.Domains.{end_reason}
 use Rattle.jx_model.specs.WellMade.{IsSupported}
 
 -- the reply is one to an act with code
@@ -60,6 +62,15 @@ unfoldable pub own_reason : Act → Option Reason
 own_reason (act.Exit code) = Some (reason.Exit code)
 own_reason (act.End why) = Some why
 own_reason _ = None
+
+-- the reasons with that of domain d at its place, where there is one
+unfoldable pub noted : ℕ → Option Reason → List (Option Reason) → List (Option Reason)
+noted d None reasons = reasons
+noted d (Some why) reasons = set reasons d (Some why)
+
+-- the reasons are those of the domains after the past, each at the place of its domain's number
+abbrev pub HasReasons : List (Option Reason) → Past → Type 0
+HasReasons reasons past = (d : ℕ) → d ≤ 64 → slice_get reasons d ≡ Some (end_reason past d)
 
 -- the sum of numbers
 unfoldable pub total : List ℕ → ℕ

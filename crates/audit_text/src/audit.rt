@@ -4,13 +4,14 @@ ghost use Rattle.std.specs.List.{AllByRecursion};
 ghost use Rattle.jx_base.specs.Puts.{Puts};
 ghost use Rattle.audit_model.specs.AuditText.{audit_text, lines_after, state_lines};
 ghost use Rattle.jx_model.specs.Legal.{IsAdmitted, IsAdmittedPast};
-ghost use Rattle.audit_text.specs.Rendering.{IsSupportedEntry};
+ghost use Rattle.audit_text.specs.Rendering.{HasReasons, IsSupportedEntry};
 ghost use Rattle.page_text.specs.Writes.{Writes};
 ghost use Rattle.supported_acts.specs.SupportedActs.{HasSupportedActs};
 
 use crate::console::write_console;
 use crate::domains::write_domains;
 use crate::entries::write_entries;
+use crate::reasons::EndReasons;
 use crate::totals::write_totals;
 use jx_base::{Entry, Failed, History, Sink, System};
 use page_text::{Page, Piece, write_line};
@@ -19,15 +20,18 @@ use page_text::{Page, Piece, write_line};
 fn write_state<K: Sink>(
     system: &System,
     entries: &[Entry],
+    reasons: &EndReasons,
     page: &mut Page,
     sink: &mut K,
 ) -> Result<(), Failed>
-    requires { AllByRecursion IsSupportedEntry entries.now }
+    requires admitted { IsAdmittedPast system.now (reverse entries.now) }
+    requires supported { AllByRecursion IsSupportedEntry entries.now }
+    requires reasons { HasReasons reasons.now.by_number (reverse entries.now) }
     ensures { Writes (state_lines system.now (reverse entries.now))
         (page.old, K.state sink.old) (page.new, K.state sink.new) result }
 {
     write_line(&[Piece::Plain("domains")], page, sink)?;
-    write_domains(system, entries, page, sink)?;
+    write_domains(system, entries, reasons, page, sink)?;
     write_line(&[Piece::Plain("calls")], page, sink)
 }
 
@@ -45,8 +49,9 @@ fn write_after<K: Sink>(
 {
     write_line(&[Piece::Plain("console")], page, sink)?;
     write_console(entries, page, sink)?;
-    write_state(system, entries, page, sink)?;
-    write_totals(system, entries, page, sink)
+    let reasons = EndReasons::after(entries);
+    write_state(system, entries, &reasons, page, sink)?;
+    write_totals(system, entries, &reasons, page, sink)
 }
 
 fn write_audit<K: Sink>(

@@ -2,13 +2,15 @@
 ghost use Rattle.std.specs.Prelude.{◌≡◌, reverse};
 ghost use Rattle.std.specs.List.{AllByRecursion, flat_map};
 ghost use Rattle.jx_base.specs.Basics.{up_to};
-ghost use Rattle.jx_model.specs.Domains.{domains_made, ended_by, reason_for, end_reason};
+ghost use Rattle.jx_model.specs.Domains.{domains_made};
+ghost use Rattle.jx_model.specs.Legal.{IsAdmittedPast};
 ghost use Rattle.audit_model.specs.AuditText.{domain_line};
-ghost use Rattle.audit_text.specs.Rendering.{IsSupportedEntry, made_template, own_reason};
+ghost use Rattle.audit_text.specs.Rendering.{HasReasons, IsSupportedEntry, made_template};
 ghost use Rattle.audit_text.specs.Rendering.{standing_text, domain_text, whole_line};
 ghost use Rattle.page_text.specs.Writes.{Writes};
 
 use crate::entries::template_name;
+use crate::reasons::EndReasons;
 use jx_base::{Act, DomainId, Entry, Failed, Reason, Reply, Sink, System};
 use page_text::{Page, Piece, write_behind, write_words};
 
@@ -21,44 +23,6 @@ pub fn made_template(entry: &Entry) -> Option<u32>
         (Act::Create(template), Reply::Domain(_, _)) => Some(*template),
         _ => None,
     }
-}
-
-// Why the domain ends by the entry, if it does.
-fn reason_of(entry: &Entry, domain: u64) -> Option<Reason>
-    requires { IsSupportedEntry entry.now }
-    ensures { result ≡ reason_for (ended_by entry.now) domain }
-{
-    if u64::from(entry.domain.0) == domain {
-        own_reason(&entry.act)
-    } else {
-        None
-    }
-}
-
-// Why the domain that acts ends by its act, if it does.
-#[tactic(auto, unfolding(crate::specs::Rendering::own_reason))]
-fn own_reason(act: &Act) -> Option<Reason>
-    ensures { result ≡ own_reason act.now }
-{
-    match act {
-        Act::Exit(code) => Some(Reason::Exit(*code)),
-        Act::End(why) => Some(*why),
-        _ => None,
-    }
-}
-
-/// Why the domain ended, if it did.
-pub fn end_reason(entries: &[Entry], domain: u64) -> Option<Reason>
-    requires { AllByRecursion IsSupportedEntry entries.now }
-    ensures { result ≡ end_reason (reverse entries.now) domain }
-{
-    let mut found = None;
-    for entry in entries {
-        if let Some(why) = reason_of(entry, domain) {
-            found = Some(why);
-        }
-    }
-    found
 }
 
 // Writes how a domain stands, each word behind a space.
@@ -136,10 +100,13 @@ fn write_domain<K: Sink>(
 pub fn write_domains<K: Sink>(
     system: &System,
     entries: &[Entry],
+    reasons: &EndReasons,
     page: &mut Page,
     sink: &mut K,
 ) -> Result<(), Failed>
-    requires { AllByRecursion IsSupportedEntry entries.now }
+    requires admitted { IsAdmittedPast system.now (reverse entries.now) }
+    requires supported { AllByRecursion IsSupportedEntry entries.now }
+    requires reasons { HasReasons reasons.now.by_number (reverse entries.now) }
     ensures { Writes (flat_map (domain_line system.now (reverse entries.now))
         (up_to (domains_made (reverse entries.now))))
         (page.old, K.state sink.old) (page.new, K.state sink.new) result }
@@ -153,7 +120,7 @@ pub fn write_domains<K: Sink>(
                 template,
                 creator: entry.domain,
             };
-            let why = end_reason(entries, domains);
+            let why = reasons.reason(domains);
             write_domain(system, born, why, page, sink)?;
         }
     }

@@ -5,6 +5,7 @@ mod audit;
 mod console;
 mod domains;
 mod entries;
+mod reasons;
 mod totals;
 
 pub use audit::render;

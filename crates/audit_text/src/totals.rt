@@ -6,10 +6,11 @@ ghost use Rattle.jx_model.specs.Granules as Spec;
 ghost use Rattle.jx_model.specs.Granules.{used_granules};
 ghost use Rattle.jx_model.specs.Journal.{entry_words, words_of};
 ghost use Rattle.jx_model.specs.Legal.{IsAdmittedPast};
-ghost use Rattle.audit_text.specs.Rendering.{IsSupportedEntry, total, where_live};
+ghost use Rattle.audit_text.specs.Rendering.{HasReasons, IsSupportedEntry, total, where_live};
 ghost use Rattle.page_text.specs.Writes.{Writes};
 
-use crate::domains::{end_reason, made_template};
+use crate::domains::made_template;
+use crate::reasons::EndReasons;
 use extent_pool::heap_granules;
 use jx_base::{Act, Entry, Failed, Reason, Sink, System};
 use page_text::{Page, Piece, write_line};
@@ -34,9 +35,10 @@ fn granules_of(system: &System, template: u32, why: Option<Reason>) -> u64
 }
 
 // How many granules are in use.
-fn used_granules(system: &System, entries: &[Entry]) -> u64
+fn used_granules(system: &System, entries: &[Entry], reasons: &EndReasons) -> u64
     requires admitted { IsAdmittedPast system.now (reverse entries.now) }
     requires supported { AllByRecursion IsSupportedEntry entries.now }
+    requires reasons { HasReasons reasons.now.by_number (reverse entries.now) }
     ensures { result ≡ used_granules system.now (reverse entries.now) }
 {
     let mut domains: u64 = 0;
@@ -44,7 +46,7 @@ fn used_granules(system: &System, entries: &[Entry]) -> u64
     for entry in entries {
         if let Some(template) = made_template(entry) {
             domains += 1;
-            used += granules_of(system, template, end_reason(entries, domains));
+            used += granules_of(system, template, reasons.reason(domains));
         }
     }
     used
@@ -130,16 +132,18 @@ fn write_total<K: Sink>(
 pub fn write_totals<K: Sink>(
     system: &System,
     entries: &[Entry],
+    reasons: &EndReasons,
     page: &mut Page,
     sink: &mut K,
 ) -> Result<(), Failed>
     requires admitted { IsAdmittedPast system.now (reverse entries.now) }
     requires supported { AllByRecursion IsSupportedEntry entries.now }
+    requires reasons { HasReasons reasons.now.by_number (reverse entries.now) }
     ensures { Writes (total_lines system.now (reverse entries.now))
         (page.old, K.state sink.old) (page.new, K.state sink.new) result }
 {
     let granules = wide(system.plan.granules);
-    let used = used_granules(system, entries);
+    let used = used_granules(system, entries, reasons);
     write_total("memory", used, granules, page, sink)?;
     let journal = wide(system.plan.journal);
     let words = words_before_last(entries);

@@ -11,18 +11,18 @@ pub returns-in_err-write_line : goal.returns-in_err-write_line
 unfolding piece_text
 returns-in_err-write_line g c =
     let p = err_from_is_err_and c.from_residual.result c.from_residual.ensures.1 in
-    rw (p.1, state_lines-parts c.args.system.now (reverse c.args.entries.now) (all_reverse IsSupportedEntry c.args.entries.now c.requires))
+    rw (p.1, state_lines-parts c.args.system.now (reverse c.args.entries.now) (all_reverse IsSupportedEntry c.args.entries.now c.requires.supported))
     (writes_stop _ _ c.in_err-write_line.ensures)
 
 pub returns-in_err-write_domains : goal.returns-in_err-write_domains
 unfolding piece_text
 returns-in_err-write_domains g c =
     let p = err_from_is_err_and c.from_residual-in_err-write_domains.result c.from_residual-in_err-write_domains.ensures.1 in
-    rw (p.1, state_lines-parts c.args.system.now (reverse c.args.entries.now) (all_reverse IsSupportedEntry c.args.entries.now c.requires))
+    rw (p.1, state_lines-parts c.args.system.now (reverse c.args.entries.now) (all_reverse IsSupportedEntry c.args.entries.now c.requires.supported))
     (writes_then c.in_ok-write_line.ensures (writes_stop _ _ c.in_err-write_domains.ensures))
 
 pub returns : goal.returns
 unfolding piece_text
 returns g c =
-    rw (state_lines-parts c.args.system.now (reverse c.args.entries.now) (all_reverse IsSupportedEntry c.args.entries.now c.requires))
+    rw (state_lines-parts c.args.system.now (reverse c.args.entries.now) (all_reverse IsSupportedEntry c.args.entries.now c.requires.supported))
     (writes_then c.in_ok-write_line.ensures (writes_then c.in_ok-write_domains.ensures c.write_line-2.ensures))

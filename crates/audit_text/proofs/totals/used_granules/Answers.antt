@@ -3,6 +3,7 @@ use Rattle.std.proofs.lemmas.List.{drop_all}
 use Rattle.audit_text.specs.Rendering.{total}
 use Rattle.audit_text.proofs.Sums.{entry_sum-more}
 use Rattle.audit_text.proofs.BirthLines.{born-more, born-same, born-end, born}
+use Rattle.audit_text.proofs.ReasonTable.{found_reason}
 use Rattle.audit_text.proofs.UsedGranules.{births_few, birth_count, birth_count-Some, birth_count-None, granules_after, granules_after-is, total-append, total-none, used-born}
 use Rattle.audit_text.proofs.totals.used_granules.Goals as goal
 use Rattle.audit_text.proofs.totals.used_granules.Goals.{in-Some, in_default}
@@ -10,9 +11,16 @@ use Rattle.audit_text.proofs.totals.used_granules.Goals.{in-Some, in_default}
 pub loop-entry-init : goal.loop-entry-init
 loop-entry-init c = record {
   few = omega arith;
+  made = omega (arith, births_few c.args.system.now c.args.entries.now c.requires.admitted c.requires.supported);
   sum = omega arith;
   small = omega (arith, births_few c.args.system.now c.args.entries.now c.requires.admitted c.requires.supported);
 }
+
+pub reason-requires : goal.reason-requires
+reason-requires c =
+    let more = entry_sum-more birth_count c.loop-entry.entry-index c.args.entries.now c.entry-item.result c.entry-item.is (omega arith) in
+    let one = birth_count-Some c.entry-item.result c.in-Some.template (sym c.made_template.ensures ∙ c.in-Some.is) in
+    omega arith
 
 pub overflow_add-used : goal.overflow_add-used
 overflow_add-used c =
@@ -32,13 +40,13 @@ loop-entry-preserved c =
           let one = birth_count-Some c.entry-item.result w.in-Some.template is in
           let split = ap total (born-more after n c.loop-entry.entry-index w.in-Some.template c.args.entries.now c.entry-item.result c.entry-item.is (omega arith) is) in
           let sum = total-append (after (n + 1) w.in-Some.template c.entry-item.result.domain.0) (born after (n + 1) (drop (c.loop-entry.entry-index + 1) c.args.entries.now)) in
-          let here = granules_after-is c.args.system.now past (n + 1) w.in-Some.template c.entry-item.result.domain.0 w.end_reason.result w.end_reason.ensures in
-          record { few = omega arith; sum = rw w.domains-is (omega arith); small = omega arith }
+          let here = granules_after-is c.args.system.now past (n + 1) w.in-Some.template c.entry-item.result.domain.0 w.reason.result (found_reason c.args.reasons.now.by_number past (n + 1) w.reason.result c.requires.reasons (omega arith) w.reason.ensures) in
+          record { few = omega arith; made = rw w.domains-is (omega arith); sum = rw w.domains-is (omega arith); small = omega arith }
       | in_default w ↦
           let is = sym c.made_template.ensures ∙ w.in_default.is in
           let none = birth_count-None c.entry-item.result is in
           let same = ap total (born-same after n c.loop-entry.entry-index c.args.entries.now c.entry-item.result c.entry-item.is (omega arith) is) in
-          record { few = omega arith; sum = rw w.domains-is (omega arith); small = omega arith }
+          record { few = omega arith; made = rw w.domains-is (omega arith); sum = rw w.domains-is (omega arith); small = omega arith }
     ]
 
 pub returns : goal.returns

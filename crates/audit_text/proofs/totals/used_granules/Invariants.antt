@@ -8,6 +8,7 @@ use Rattle.audit_text.proofs.totals.used_granules.Given as goal
 abbrev pub invariant-loop-entry : goal.invariant-loop-entry
 invariant-loop-entry l = record {
   few : l.domains ≤ l.entry-index;
+  made : l.domains + entry_sum birth_count (drop l.entry-index l.entries) ≤ 64;
   sum : l.used + total (born (granules_after l.system (reverse l.entries)) l.domains (drop l.entry-index l.entries))
       ≡ total (born (granules_after l.system (reverse l.entries)) 0 l.entries);
   small : l.used + 536870912 * entry_sum birth_count (drop l.entry-index l.entries) ≤ 536870912 * 64;
