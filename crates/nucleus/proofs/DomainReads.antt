@@ -21,11 +21,13 @@ use Rattle.jx_model.specs.Domains.{domains_made, end_reason, is_live, is_made}
 use Rattle.jx_model.specs.Permits.{can_act, first_choice, first_of_choices, is_idle_for, is_yielded}
 use Rattle.jx_model.specs.Tables.{CallRecord, ThreadRecord, domain_record, domain_records, thread_records}
 use Rattle.jx_model.specs.Threads.{is_running_state, running_thread, service_threads, thread_state, thread_where}
+use Rattle.domain_flags.specs.FlagLists.{IsDomain}
 use Rattle.domain_table.specs.DomainLists as Lists
+use Rattle.program_model.specs.Limits.{domain_limit}
 use Rattle.table_reads.proofs.ActingReads.{state_by_records}
 use Rattle.table_reads.proofs.ChoiceReads.{choice_by_records, lives_by_records, running_by_records, thread_by_records}
 use Rattle.table_reads.specs.TableReads as Reads
-use Rattle.table_threads.proofs.Actors.{IsMade, live_by_reason, live_made, made_is}
+use Rattle.table_threads.proofs.Actors.{IsMade, domains_fit, live_by_reason, live_made, made_is}
 use Rattle.table_threads.proofs.Records.{no_record, numbered_record, records_length}
 use Rattle.nucleus.specs.Inner.{IsOf, past_in}
 use Rattle.nucleus.specs.declared.tables.Tables.{Tables}
@@ -57,6 +59,12 @@ mapped_some (Some t) = refl
 pub made_count : (s : System) (x : Tables) → IsOf s x → length x.domains.domains ≡ domains_made (past_in x)
 unfolding domain_records
 made_count s x h = ap (λ (items : List DomainState). length items) h.stands.domains ∙ records_length (domain_record s (past_in x)) (domains_made (past_in x))
+
+-- a live domain has one of the numbers that flags are kept for
+pub live_numbered : (s : System) (x : Tables) (d : ℕ) → IsOf s x → is_live (past_in x) d ≡ true → IsDomain d
+unfolding domain_limit
+live_numbered s x d h l =
+    let m = live_made (past_in x) d l in (m.low, omega (arith, m.high, domains_fit s (past_in x) h.stands.admitted))
 
 module _ (s : System) (x : Tables) (h : IsOf s x) (d : ℕ) where
   -- a domain that was made has its record

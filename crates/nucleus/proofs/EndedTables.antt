@@ -4,6 +4,7 @@ use Rattle.std.specs.Prelude.{IsSome, IsSomeAnd}
 use Rattle.std.specs.List.{range_with_len}
 use Rattle.std.specs.Option.{option_map, unwrap_or}
 use Rattle.std.proofs.lemmas.Bool.Decides.{nat_tests}
+use Rattle.std.proofs.lemmas.List.{length-map}
 use Rattle.std.proofs.lemmas.Option.{get_or_from_slice_get}
 use Rattle.jx_base.specs.declared.act.Act.{Act}
 use Rattle.jx_base.specs.declared.act.Act.TheVariants as act
@@ -12,25 +13,31 @@ use Rattle.jx_base.specs.declared.act.Reason.{Reason}
 use Rattle.jx_base.specs.declared.act.Reply.TheVariants as reply
 use Rattle.jx_base.specs.declared.program.System.{System}
 use Rattle.jx_base.specs.declared.states.DomainState.{DomainState}
-use Rattle.jx_base.specs.Basics.{numbered}
+use Rattle.jx_base.specs.Basics.{is_number, numbered, passes}
+use Rattle.jx_base.proofs.BasicLaws.{ap2}
 use Rattle.program_model.specs.Limits.{granule_limit}
 use Rattle.jx_laws.proofs.Runs.{HeapOf, owner_lies, owners_within}
 use Rattle.jx_model.proofs.Serving.{not_ended_yet}
-use Rattle.jx_model.specs.Domains.{is_birth, is_live, makes_domain}
+use Rattle.jx_model.specs.Domains.{ended_by, ended_by_act, is_birth, is_live, makes_domain}
 use Rattle.jx_model.specs.Granules.{Run, heap_granules, heap_run, is_used_granule, lies_in}
 use Rattle.jx_model.specs.Legal.{IsNext}
 use Rattle.jx_model.specs.Permits.{is_create, is_create_entry, is_ending, is_halt, zero_may}
+use Rattle.jx_model.specs.Portals.{gives_portal, received_parcel, received_service}
 use Rattle.jx_model.specs.Replies.{reply_to}
-use Rattle.jx_model.specs.Tables.{Kept, StandsFor, domain_record, granule_flags}
+use Rattle.jx_model.specs.Tables.{Kept, ServiceRecord, StandsFor, domain_record, granule_flags}
+use Rattle.domain_flags.specs.FlagLists.{with_flag}
 use Rattle.domain_table.specs.DomainLists as Lists
 use Rattle.extent_pool.specs.Taken.{AreTaken, is_taken}
+use Rattle.portal_table.specs.ServiceLists.{without_holder}
 use Rattle.table_reads.proofs.ReplyReads.{heap_run_by_record}
 use Rattle.table_steps.proofs.EndSteps.{stands_after_end, stands_after_exit}
 use Rattle.table_steps.specs.Steps.{after_end, heap_in, heap_of, with_entry}
 use Rattle.table_threads.proofs.Actors.{acts_live, live_made}
 use Rattle.table_threads.proofs.Records.{get_range}
 use Rattle.nucleus.proofs.DomainReads.{domain_there}
-use Rattle.nucleus.proofs.Entered.{entered, kept_put}
+use Rattle.nucleus.proofs.EndedFlags.{ended_more}
+use Rattle.nucleus.proofs.Entered.{IsBeside, costs_less, entered, kept_put}
+use Rattle.nucleus.proofs.PortalChanges.{handed_end}
 use Rattle.nucleus.proofs.RunsTaken.{run_freed}
 use Rattle.nucleus.specs.Ends.{IsEndingAct, with_ended}
 use Rattle.nucleus.specs.Entering.{done_entry}
@@ -107,11 +114,13 @@ record IsEndEntry (s : System) (x : Tables) (e : Entry) (why : Reason) : Type 0 
   pub going : is_ending e.act ≡ false
   pub create : is_create_entry e ≡ false
   pub birth : is_birth e ≡ false
+  pub ended : ended_by e ≡ Some (e.domain.0, why)
+  pub gives : (j : ℕ) → gives_portal j e ≡ false
   pub stands : StandsFor s (after_end s (kept_in x) e e.domain.0 why)
 
 -- an exit or an end is one
 end_entry : (s : System) (x : Tables) (d t : ℕ) (a : Act) (why : Reason) → IsPermittedIn s x d t a → IsEndingAct a why → IsEndEntry s x (done_entry d t a) why
-unfolding reply_to is_ending is_create_entry is_create is_birth makes_domain
+unfolding reply_to is_ending is_create_entry is_create is_birth makes_domain ended_by ended_by_act gives_portal received_service received_parcel is_number passes
 end_entry s x d t (act.Exit code) why h p =
     let e : Entry = done_entry d t (act.Exit code) in
     let next : IsNext s (past_in x) e = record { thread = h.thread; well_made = h.may_come.well_made; reply = refl } in
@@ -120,6 +129,8 @@ end_entry s x d t (act.Exit code) why h p =
       going = refl;
       create = refl;
       birth = refl;
+      ended = ap (λ (r : Reason). let o : Option (ℕ × Reason) = Some (d, r) in o) (sym p);
+      gives = λ j. refl;
       stands = subst (λ (r : Reason). StandsFor s (after_end s (kept_in x) e d r)) (sym p) (stands_after_exit s (kept_in x) d t code reply.Done h.tables.stands next);
     }
 end_entry s x d t (act.End r) why h p =
@@ -130,30 +141,49 @@ end_entry s x d t (act.End r) why h p =
       going = refl;
       create = refl;
       birth = refl;
+      ended = ap (λ (r : Reason). let o : Option (ℕ × Reason) = Some (d, r) in o) (sym p);
+      gives = λ j. refl;
       stands = subst (λ (r : Reason). StandsFor s (after_end s (kept_in x) e d r)) (sym p) (stands_after_end s (kept_in x) d t r reply.Done h.tables.stands next);
     }
 end_entry s x d t _ why h p = absurd p
 
 -- what is kept of the tables is what is kept after the end
-kept_ended : (s : System) (x : Tables) (e : Entry) (d : ℕ) (why : Reason) → is_ending e.act ≡ false → is_create_entry e ≡ false → kept_in (with_put (with_ended s x d why) e) ≡ after_end s (kept_in x) e d why
-kept_ended s x e d why g c =
+kept_ended : (s : System) (x : Tables) (e : Entry) (d : ℕ) (why : Reason) → is_ending e.act ≡ false → is_create_entry e ≡ false → ended_by e ≡ Some (d, why) → 1 ≤ d → ((j : ℕ) → gives_portal j e ≡ false) → kept_in (with_put (with_ended s x d why) e) ≡ after_end s (kept_in x) e d why
+kept_ended s x e d why g c b l p =
     let y : Tables = with_ended s x d why in
     kept_put x y e (ap (λ (b : Bool). b || x.over) (sym g)) (count (is_create_entry e) c) refl
-    ∙ ap (λ (taken : List Bool). let k : Kept = record (with_entry (kept_in x) e) { domains = y.domains.domains; threads = x.domains.threads; taken = taken } in k)
+    ∙ ap2 (λ (services : List ServiceRecord) (taken : List Bool). let k : Kept = record (with_entry (kept_in x) e) { domains = y.domains.domains; threads = x.domains.threads; services = services; taken = taken } in k)
+    (handed_end (kept_in x) e d why b l p)
     (run_freed x.pool (heap_in s x.domains.domains d))
   where
     count : (b : Bool) → b ≡ false → x.creates ≡ x.creates + (if b then 1 else 0)
     count false q = omega arith
     count true q = cc
 
+-- so is what the tables have beside it
+ended_beside : (s : System) (x : Tables) (e : Entry) (d : ℕ) (why : Reason) → IsOf s x → ended_by e ≡ Some (d, why) → 1 ≤ d → IsBeside s x (with_ended s x d why) e
+ended_beside s x e d why h q l =
+    record {
+      limit = refl;
+      boots = refl;
+      words = refl;
+      ended = ap (with_flag d true) h.ended ∙ sym (ended_more s e (past_in x) d why q l);
+      serving = h.serving ∙ sym (length-map x.services.services (without_holder d));
+      cost = costs_less s x e h;
+    }
+
 -- the tables with that entry are those of the past with it
-end_put : (s : System) (x : Tables) (d t : ℕ) (a : Act) (why : Reason) → IsPermittedIn s x d t a → IsEndEntry s x (done_entry d t a) why →
+end_put : (s : System) (x : Tables) (d t : ℕ) (a : Act) (why : Reason) → IsPermittedIn s x d t a → is_live (past_in x) d ≡ true → IsEndEntry s x (done_entry d t a) why →
     IsEntered s (state_of x) (state_of (with_put (with_ended s x d why) (done_entry d t a))) (done_entry d t a) × (is_birth (done_entry d t a) ≡ false)
-end_put s x d t a why h p =
-    (entered s x (with_ended s x d why) d t a reply.Done h p.reply refl refl refl (subst (StandsFor s) (sym (kept_ended s x (done_entry d t a) d why p.going p.create)) p.stands), p.birth)
+end_put s x d t a why h l p =
+    let low : 1 ≤ d = (live_made (past_in x) d l).low in (
+      entered s x (with_ended s x d why) d t a reply.Done h p.reply refl (ended_beside s x (done_entry d t a) d why h.tables p.ended low)
+          (subst (StandsFor s) (sym (kept_ended s x (done_entry d t a) d why p.going p.create p.ended low p.gives)) p.stands),
+      p.birth,
+    )
 
 -- an exit or an end
 pub end_entered : (s : System) (x y : Tables) (d t : ℕ) (a : Act) (why : Reason) → IsPermittedIn s x d t a → IsEndingAct a why → y ≡ with_put (with_ended s x d why) (done_entry d t a) →
     IsEntered s (state_of x) (state_of y) (done_entry d t a) × (is_birth (done_entry d t a) ≡ false)
 end_entered s x y d t a why h p q =
-    subst (λ (z : Tables). IsEntered s (state_of x) (state_of z) (done_entry d t a) × (is_birth (done_entry d t a) ≡ false)) (sym q) (end_put s x d t a why h (end_entry s x d t a why h p))
+    subst (λ (z : Tables). IsEntered s (state_of x) (state_of z) (done_entry d t a) × (is_birth (done_entry d t a) ≡ false)) (sym q) (end_put s x d t a why h (ends_live s x d t a why h p) (end_entry s x d t a why h p))

@@ -1,11 +1,12 @@
 -- Which entry an act is, by its kind.
-use Rattle.std.proofs.Common.{◌≡◌, ◌≢◌, refl, sym, ◌∙◌, ap, subst, ℕ, ℤ, true, false, Option, Some, None, is_some, ◌==◌, ◌⊎◌, inl, inr, arith}
+use Rattle.std.proofs.Common.{◌≡◌, ◌≢◌, refl, sym, ◌∙◌, ap, subst, ℕ, ℤ, true, false, List, Option, Some, None, is_some, ◌==◌, ◌⊎◌, inl, inr, arith}
 use Rattle.std.specs.Option.{option_map}
 use Rattle.jx_base.specs.declared.act.Act.{Act}
 use Rattle.jx_base.specs.declared.act.Act.TheVariants as act
 use Rattle.jx_base.specs.declared.act.Reason.{Reason}
 use Rattle.jx_base.specs.declared.act.Reply.TheVariants as reply
 use Rattle.jx_base.specs.declared.ids.ClassId.{ClassId}
+use Rattle.jx_base.specs.declared.ids.ServiceId.{ServiceId}
 use Rattle.jx_base.specs.declared.ids.ThreadId.{ThreadId}
 use Rattle.jx_base.specs.declared.program.System.{System}
 use Rattle.jx_base.specs.declared.states.ThreadState.TheVariants as thread
@@ -16,12 +17,12 @@ use Rattle.jx_model.specs.Domains.{is_live}
 use Rattle.jx_model.specs.Threads.{running_thread}
 use Rattle.jx_model.specs.Tables.{ThreadRecord, state_or_over}
 use Rattle.jx_model.specs.Threads.{served_after, state_after}
-use Rattle.jx_model.specs.WellMade.{IsSupported, is_supported}
+use Rattle.jx_model.specs.WellMade.{is_supported}
 use Rattle.domain_table.specs.DomainLists as Lists
 use Rattle.nucleus.specs.Entering.{IsPlain, thread_state_after}
 use Rattle.nucleus.specs.Inner.{IsPermittedIn, past_in}
 use Rattle.nucleus.specs.NucleusStates.{NucleusState}
-use Rattle.nucleus.specs.Stepping.{IsStepped}
+use Rattle.nucleus.specs.Stepping.{HasEntry, IsStepped}
 use Rattle.nucleus.specs.declared.step.Step.{Step}
 use Rattle.nucleus.specs.declared.tables.Tables.{Tables}
 use Rattle.table_threads.specs.ThreadChanges.{thread_record_after}
@@ -82,16 +83,19 @@ ends_as x d t c = by (Lists.thread_in x.domains d t)
 
 -- ---- what is left
 
-pub plain_left : (a : Act) → IsSupported a → ((t : ℕ) → a ≢ act.Create t) → a ≢ act.Quiet → a ≢ act.Halt → ((c : ℤ) → a ≢ act.Exit c) → ((r : Reason) → a ≢ act.End r) →
+pub plain_left : (a : Act) → HasEntry a → ((i : ClassId) (k : ℕ) → a ≢ act.Export i k) → ((m : List ℕ) (k : ServiceId) → a ≢ act.Bind m k) → ((m : List ℕ) → a ≢ act.Lookup m) → ((t : ℕ) → a ≢ act.Create t) → a ≢ act.Quiet → a ≢ act.Halt → ((c : ℤ) → a ≢ act.Exit c) → ((r : Reason) → a ≢ act.End r) →
     ((t : ThreadId) → a ≢ act.Go t) → a ≢ act.Yield → ((c : Option ClassId) → a ≢ act.EndThread c) → IsPlain a
 unfolding is_supported
-plain_left (act.Print text) u c q h x e g y n = tt
-plain_left (act.Create t) u c q h x e g y n = absurd (c t refl)
-plain_left act.Quiet u c q h x e g y n = absurd (q refl)
-plain_left act.Halt u c q h x e g y n = absurd (h refl)
-plain_left (act.Exit k) u c q h x e g y n = absurd (x k refl)
-plain_left (act.End r) u c q h x e g y n = absurd (e r refl)
-plain_left (act.Go t) u c q h x e g y n = absurd (g t refl)
-plain_left act.Yield u c q h x e g y n = absurd (y refl)
-plain_left (act.EndThread k) u c q h x e g y n = absurd (n k refl)
-plain_left _ u c q h x e g y n = cc
+plain_left (act.Print text) u v b l c q h x e g y n = tt
+plain_left (act.Export i k) u v b l c q h x e g y n = absurd (v i k refl)
+plain_left (act.Bind m k) u v b l c q h x e g y n = absurd (b m k refl)
+plain_left (act.Lookup m) u v b l c q h x e g y n = absurd (l m refl)
+plain_left (act.Create t) u v b l c q h x e g y n = absurd (c t refl)
+plain_left act.Quiet u v b l c q h x e g y n = absurd (q refl)
+plain_left act.Halt u v b l c q h x e g y n = absurd (h refl)
+plain_left (act.Exit k) u v b l c q h x e g y n = absurd (x k refl)
+plain_left (act.End r) u v b l c q h x e g y n = absurd (e r refl)
+plain_left (act.Go t) u v b l c q h x e g y n = absurd (g t refl)
+plain_left act.Yield u v b l c q h x e g y n = absurd (y refl)
+plain_left (act.EndThread k) u v b l c q h x e g y n = absurd (n k refl)
+plain_left _ u v b l c q h x e g y n = cc

@@ -8,3 +8,10 @@ mod NewDomains
 mod EnteredActs
 mod EndedTables
 mod OpenTables
+mod OneChanged
+mod EndedFlags
+mod PortalChanges
+mod ServiceReplies
+mod PortalActs
+mod ServicesMade
+pub mod SupportedEntries

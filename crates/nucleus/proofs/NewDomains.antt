@@ -23,7 +23,7 @@ use Rattle.jx_base.specs.declared.program.Template.{Template}
 use Rattle.jx_base.specs.Basics.{parts_of}
 use Rattle.jx_base.specs.Histories.{Past}
 use Rattle.jx_base.proofs.BasicLaws.{ap2}
-use Rattle.jx_model.specs.Domains.{domains_made, is_birth, makes_domain, named_template, reply_granule}
+use Rattle.jx_model.specs.Domains.{domains_made, ended_by, ended_by_act, is_birth, makes_domain, named_template, reply_granule}
 use Rattle.jx_model.specs.Granules.{first_fit, heap_granules, heap_of_template, is_used_granule, least_free}
 use Rattle.jx_model.specs.Permits.{boot_templates, creates_made, domain_thread, is_boot_template, is_create, is_create_entry, is_ending, is_halt, next_boot, zero_may, zero_may_now}
 use Rattle.jx_model.specs.Replies.{given_or, new_domain, reply_to, ◌refuses◌else◌}
@@ -33,7 +33,7 @@ use Rattle.program_model.specs.Lookup.{template_at}
 use Rattle.program_model.specs.Plans.{IsTemplateInRange}
 use Rattle.extent_pool.specs.Taken.{is_taken}
 use Rattle.nucleus.proofs.DomainReads.{made_count}
-use Rattle.nucleus.proofs.Entered.{entered, kept_put}
+use Rattle.nucleus.proofs.Entered.{entered, kept_put, same_beside}
 use Rattle.nucleus.proofs.RunsTaken.{least_is, run_taken}
 use Rattle.nucleus.specs.Births.{IsBorn, with_newborn}
 use Rattle.nucleus.specs.Inner.{IsOf, IsPermittedIn, kept_in, past_in, state_of, with_put}
@@ -148,26 +148,26 @@ module _ (s : System) (x : Tables) (t : ℕ) (p : IsPermittedIn s x 0 0 (act.Cre
   -- what is kept of tables with the create
   kept_created : (y : Tables) (r : Reply) → y.over ≡ x.over → y.journal ≡ x.journal →
       kept_in (with_put (created (record y { creates = x.creates })) (entry 0 0 (act.Create t) r))
-      ≡ record (Steps.with_entry (kept_in x) (entry 0 0 (act.Create t) r)) { domains = y.domains.domains; threads = y.domains.threads; taken = y.pool }
+      ≡ record (Steps.with_entry (kept_in x) (entry 0 0 (act.Create t) r)) { domains = y.domains.domains; threads = y.domains.threads; services = y.services.services; names = y.services.binds; taken = y.pool }
   unfolding is_ending is_create_entry is_create
   kept_created y r o j = kept_put x (created (record y { creates = x.creates })) (entry 0 0 (act.Create t) r) o refl j
 
   -- one that is refused
   pub refused_create : (y : Tables) (r : Refusal) → new_domain s (past_in x) t ≡ reply.Refused r → y ≡ with_put (created x) (entry 0 0 (act.Create t) (reply.Refused r)) →
       IsEntered s (state_of x) (state_of y) (entry 0 0 (act.Create t) (reply.Refused r)) × (is_birth (entry 0 0 (act.Create t) (reply.Refused r)) ≡ false)
-  unfolding reply_to is_birth makes_domain
+  unfolding reply_to is_birth makes_domain ended_by ended_by_act
   refused_create y r h q =
       let e : Entry = entry 0 0 (act.Create t) (reply.Refused r) in
       let stands : StandsFor s (Steps.with_entry (kept_in x) e) = stands_after_refusal s (kept_in x) 0 0 (act.Create t) r p.tables.stands (record { thread = p.thread; well_made = p.may_come.well_made; reply = sym h }) refl in (
         subst (λ (z : Tables). IsEntered s (state_of x) (state_of z) e) (sym q)
-            (entered s x (created x) 0 0 (act.Create t) (reply.Refused r) p (sym h) refl refl refl (subst (StandsFor s) (sym (kept_created x (reply.Refused r) refl refl)) stands)),
+            (entered s x (created x) 0 0 (act.Create t) (reply.Refused r) p (sym h) refl (same_beside s x (created x) e p.tables refl refl refl refl refl) (subst (StandsFor s) (sym (kept_created x (reply.Refused r) refl refl)) stands)),
         refl,
       )
 
   -- one that makes a domain
   pub done_create : (y : Tables) (new : Newborn) → new_domain s (past_in x) t ≡ reply.Domain new.domain new.at → y ≡ with_put (created (with_newborn s x t new)) (entry 0 0 (act.Create t) (reply.Domain new.domain new.at)) →
       IsEntered s (state_of x) (state_of y) (entry 0 0 (act.Create t) (reply.Domain new.domain new.at)) × (new.domain ≡ new.domain) × (is_birth (entry 0 0 (act.Create t) (reply.Domain new.domain new.at)) ≡ true)
-  unfolding reply_to is_birth makes_domain named_template reply_granule
+  unfolding reply_to is_birth makes_domain named_template reply_granule ended_by ended_by_act
   done_create y new h q =
       let e : Entry = entry 0 0 (act.Create t) (reply.Domain new.domain new.at) in
       let stands : StandsFor s (Steps.after_birth s (kept_in x) e) =
@@ -180,7 +180,7 @@ module _ (s : System) (x : Tables) (t : ℕ) (p : IsPermittedIn s x 0 0 (act.Cre
         taken = taken;
       }) (run_taken x.pool new.at (heap_granules s t)) in (
         subst (λ (z : Tables). IsEntered s (state_of x) (state_of z) e) (sym q)
-            (entered s x (created (with_newborn s x t new)) 0 0 (act.Create t) (reply.Domain new.domain new.at) p (sym h) refl refl refl (subst (StandsFor s) (sym kept) stands)),
+            (entered s x (created (with_newborn s x t new)) 0 0 (act.Create t) (reply.Domain new.domain new.at) p (sym h) refl (same_beside s x (created (with_newborn s x t new)) e p.tables refl refl refl refl refl) (subst (StandsFor s) (sym kept) stands)),
         refl,
         refl,
       )

@@ -1,23 +1,27 @@
 -- The tables before the first entry, and the templates that are created at the start.
-use Rattle.std.proofs.Common.{◌≡◌, sym, ◌∙◌, ap, subst, ℕ, ◌+◌, Bool, true, false, cond, List, [], ◌∷◌, ◌++◌, filter, replicate, reverse, Some, arith, add-one, slice_get}
+use Rattle.std.proofs.Common.{◌≡◌, sym, ◌∙◌, ap, subst, ℕ, ◌+◌, ◌≤◌, Bool, true, false, cond, List, [], ◌∷◌, ◌++◌, filter, length, replicate, reverse, Some, arith, add-one, slice_get}
 use Rattle.std.specs.List.{range_with_len}
 use Rattle.std.proofs.lemmas.List.{append-nil}
 use Rattle.std.proofs.lemmas.List.Elements.{filter-append}
 use Rattle.jx_base.specs.declared.program.System.{System}
 use Rattle.jx_base.specs.declared.program.Template.{Template}
-use Rattle.jx_base.specs.Basics.{passes}
+use Rattle.jx_base.specs.Basics.{passes, up_to}
 use Rattle.jx_base.proofs.BasicLaws.{ap2, ap3}
 use Rattle.program_model.specs.Limits.{domain_limit, granule_limit, journal_limit}
 use Rattle.program_model.specs.Plans.{IsPlanInRange}
+use Rattle.jx_model.specs.Domains.{end_reason}
 use Rattle.jx_model.specs.Journal.{words_of}
 use Rattle.jx_model.specs.Permits.{boot_templates, is_boot_template}
 use Rattle.jx_model.specs.Tables.{Kept, StandsFor}
 use Rattle.journal.specs.Journals.{JournalState}
 use Rattle.domain_table.specs.DomainLists.{DomainsState}
+use Rattle.portal_table.specs.NameLists.{name_words}
+use Rattle.portal_table.specs.ServiceLists.{ServicesState}
 use Rattle.table_steps.proofs.FirstKept.{stands_at_start}
 use Rattle.table_steps.specs.Steps.{first_kept}
 use Rattle.table_threads.proofs.Records.{range_more}
-use Rattle.nucleus.specs.Inner.{IsOf, kept_in}
+use Rattle.nucleus.specs.Inner.{IsOf, kept_in, past_in}
+use Rattle.nucleus.specs.NucleusStates.{ended_flags}
 use Rattle.nucleus.specs.declared.tables.Tables.{Tables}
 
 -- ---- the templates that are created at the start
@@ -46,12 +50,14 @@ boots_without s i t q b =
 -- ---- the tables before the first entry
 
 module _ (s : System) (x : Tables) (o : x.over ≡ false) (n : x.creates ≡ 0) (j : x.journal ≡ record { entries = []; limit = s.plan.journal })
-    (d : x.domains ≡ record { domains = []; threads = []; services = 0; limit = domain_limit s }) (p : x.pool ≡ replicate s.plan.granules false) where
+    (d : x.domains ≡ record { domains = []; threads = []; services = 0; limit = domain_limit s }) (p : x.pool ≡ replicate s.plan.granules false)
+    (v : x.services ≡ record { services = []; ended = replicate 64 false; binds = []; words = s.plan.journal }) where
   -- what is kept of them is what is kept at the start
   open_kept : kept_in x ≡ first_kept s
   unfolding words_of granule_limit
   open_kept =
       ap2 (λ (over : Bool) (creates : ℕ). let k : Kept = record (kept_in x) { over = over; creates = creates } in k) o n
+      ∙ ap (λ (z : ServicesState). let k : Kept = record (kept_in x) { over = false; creates = 0; services = z.services; names = z.binds } in k) v
       ∙ ap3 (λ (journal : JournalState) (domains : DomainsState) (taken : List Bool). kept journal domains taken) j d p
     where
       kept : JournalState → DomainsState → List Bool → Kept
@@ -66,7 +72,7 @@ module _ (s : System) (x : Tables) (o : x.over ≡ false) (n : x.creates ≡ 0) 
 
   -- they are those of a nucleus
   pub open_is_of : IsPlanInRange s.plan → x.boots.items ≡ boot_templates s → IsOf s x
-  unfolding journal_limit
+  unfolding journal_limit end_reason up_to domain_limit
   open_is_of r b =
       record {
         plan = r;
@@ -74,4 +80,8 @@ module _ (s : System) (x : Tables) (o : x.over ≡ false) (n : x.creates ≡ 0) 
         journal = ap (λ (z : JournalState). z.limit) j;
         domains = ap (λ (z : DomainsState). z.limit) d;
         boots = b;
+        ended = ap (λ (z : ServicesState). z.ended) v ∙ ap (λ (z : JournalState). ended_flags s (reverse z.entries)) (sym j);
+        serving = ap2 (λ (y : DomainsState) (z : ServicesState). y.services) d v ∙ sym (ap (λ (z : ServicesState). length z.services) v);
+        names = ap (λ (z : ServicesState). z.words) v;
+        cost = subst (λ (z : ServicesState). name_words z.binds ≤ words_of (past_in x)) (sym v) (omega arith);
       }

@@ -15,9 +15,10 @@ use Rattle.jx_model.specs.Domains.{is_live}
 use Rattle.jx_model.specs.Journal.{is_full, words_of}
 use Rattle.jx_model.specs.Permits.{acting_thread, choice_thread, domain_thread, domains_wait, first_alive, going_thread, is_choice, is_halt, is_over, is_yielded, is_zero_act, may_perform, next_boot, zero_may, zero_may_now}
 use Rattle.jx_model.specs.Threads.{running_thread, thread_state}
-use Rattle.jx_model.specs.WellMade.{IsSupported, is_supported}
+use Rattle.jx_model.specs.WellMade.{is_supported}
 use Rattle.jx_model.specs.WhyNot.{boot_or, why_if, why_not, why_not_asleep, why_not_domain, why_not_running, why_not_zero}
 use Rattle.jx_base.proofs.BasicLaws.{ap2, ap3}
+use Rattle.nucleus.specs.Stepping.{HasEntry}
 use Rattle.table_threads.proofs.Records.{is_that, not_that}
 
 -- ---- domains in which no thread runs
@@ -33,7 +34,7 @@ unfolding why_not_asleep why_if going_thread
 stays past d t h = ap (λ (b : Bool). why_if (is_none (if b then Some t.0 else None)) (why.NotYielded t)) h
 
 -- nor may anything else come
-pub asleep : (past : Past) (d : ℕ) (a : Act) → IsSupported a → ((t : ThreadId) → a ≢ act.Go t) → why_not_asleep past d a ≡ Some why.Asleep
+pub asleep : (past : Past) (d : ℕ) (a : Act) → HasEntry a → ((t : ThreadId) → a ≢ act.Go t) → why_not_asleep past d a ≡ Some why.Asleep
 unfolding why_not_asleep is_supported
 asleep past d (act.Go t) u n = absurd (n t refl)
 asleep past d (act.Take c) u n = cc
@@ -58,11 +59,14 @@ unfolding may_perform
 ends past d t c h = is_that t 0 h
 
 -- all else may
-pub performs : (past : Past) (d t : ℕ) (a : Act) → IsSupported a → is_zero_act a ≡ false → ((k : ThreadId) → a ≢ act.Go k) → ((c : Option ClassId) → a ≢ act.EndThread c) → may_perform past d t a ≡ true
+pub performs : (past : Past) (d t : ℕ) (a : Act) → HasEntry a → is_zero_act a ≡ false → ((k : ThreadId) → a ≢ act.Go k) → ((c : Option ClassId) → a ≢ act.EndThread c) → may_perform past d t a ≡ true
 unfolding may_perform is_supported is_zero_act is_choice
 performs past d t (act.Go k) u z n e = absurd (n k refl)
 performs past d t (act.EndThread c) u z n e = absurd (e c refl)
 performs past d t (act.Print text) u z n e = refl
+performs past d t (act.Export iface k) u z n e = refl
+performs past d t (act.Bind name k) u z n e = refl
+performs past d t (act.Lookup name) u z n e = refl
 performs past d t (act.Exit code) u z n e = refl
 performs past d t act.Yield u z n e = refl
 performs past d t (act.End r) u z n e = refl

@@ -13,13 +13,14 @@ use Rattle.jx_base.specs.Histories.{Past}
 use Rattle.jx_base.proofs.BasicLaws.{ap2}
 use Rattle.jx_model.specs.Journal.{act_words, entry_words, is_full, reply_words, words_of}
 use Rattle.jx_model.specs.Permits.{acting_thread, domain_thread, domains_wait, is_ending, is_halt, is_over, next_boot, zero_may, zero_may_now}
-use Rattle.jx_model.specs.WellMade.{IsSupported, IsWellMade, is_supported}
+use Rattle.jx_model.specs.WellMade.{IsWellMade, is_supported}
 use Rattle.journal.specs.Journals.{HasRoomFor, JournalState}
 use Rattle.journal.specs.Journals as Journals
-use Rattle.program_model.specs.Limits.{entry_limit, journal_limit, text_limit}
+use Rattle.program_model.specs.Limits.{entry_limit, journal_limit, name_limit, text_limit}
 use Rattle.table_threads.proofs.Records.{any_append}
 use Rattle.table_threads.specs.CallChanges.{entry}
 use Rattle.nucleus.specs.Inner.{IsPermittedIn, past_in}
+use Rattle.nucleus.specs.Stepping.{HasEntry}
 use Rattle.nucleus.specs.declared.tables.Tables.{Tables}
 
 -- ---- what a permitted act finds
@@ -44,19 +45,22 @@ goes_on s past d t a h = by (is_over past) refl (d == 0) (is_full s past) refl (
 
 -- ---- what an entry costs
 
--- an act with code costs 8 words and its text
-pub supported_cost : (s : System) (past : Past) (a : Act) → IsWellMade s past a → IsSupported a → act_words a ≤ 4096
-unfolding act_words is_supported text_limit
-supported_cost s past (act.Create t) w u = omega arith
-supported_cost s past (act.Print text) w u = w.short
-supported_cost s past (act.Go t) w u = omega arith
-supported_cost s past (act.Exit code) w u = omega arith
-supported_cost s past act.Yield w u = omega arith
-supported_cost s past (act.EndThread c) w u = omega arith
-supported_cost s past (act.End r) w u = omega arith
-supported_cost s past act.Quiet w u = omega arith
-supported_cost s past act.Halt w u = omega arith
-supported_cost s past _ w u = cc
+-- an act that the nucleus enters costs 8 words and its text or name
+pub entry_cost : (s : System) (past : Past) (a : Act) → IsWellMade s past a → HasEntry a → act_words a ≤ 4096
+unfolding act_words is_supported text_limit name_limit
+entry_cost s past (act.Create t) w u = omega arith
+entry_cost s past (act.Print text) w u = w.short
+entry_cost s past (act.Export iface k) w u = omega arith
+entry_cost s past (act.Bind name k) w u = omega (arith, w.0.short)
+entry_cost s past (act.Lookup name) w u = omega (arith, w.short)
+entry_cost s past (act.Go t) w u = omega arith
+entry_cost s past (act.Exit code) w u = omega arith
+entry_cost s past act.Yield w u = omega arith
+entry_cost s past (act.EndThread c) w u = omega arith
+entry_cost s past (act.End r) w u = omega arith
+entry_cost s past act.Quiet w u = omega arith
+entry_cost s past act.Halt w u = omega arith
+entry_cost s past _ w u = cc
 
 -- ---- halts
 
@@ -97,20 +101,21 @@ no_halt (e ∷ es) h = by (is_ending e.act) refl (list_any (λ e. is_ending e.ac
 
 -- ---- room
 
--- the entry of a permitted act with code has room, whatever journal it is
+-- a journal that isn't full has room for an entry of the largest cost
+pub room_left : (w l : ℕ) → nat_lt l (w + 4104) ≡ false → w + 4104 ≤ l
+room_left w l q = grind (arith, nat_tests)
+
+-- the entry of a permitted act has room, whatever journal it is
 pub has_room : (s : System) (x : Tables) (d t : ℕ) (a : Act) (r : Reply) → IsPermittedIn s x d t a → reply_words r ≡ 0 → HasRoomFor x.journal (entry d t a r)
 unfolding is_full entry_words entry_limit is_over
 has_room s x d t a r h z = by (goes_on s (past_in x) d t a h.thread).room
   where
     few : act_words a ≤ 4096
-    few = supported_cost s (past_in x) a h.may_come.well_made h.may_come.supported
-
-    left : (w l : ℕ) → nat_lt l (w + 4104) ≡ false → w + 4104 ≤ l
-    left w l q = grind (arith, nat_tests)
+    few = entry_cost s (past_in x) a h.may_come.well_made h.may_come.has_entry
 
     by : (is_full s (past_in x) ≡ false) ⊎ (is_halt a ≡ true) → HasRoomFor x.journal (entry d t a r)
     by (inl q) =
-        let room = left (words_of (past_in x)) (journal_limit s) q in
+        let room = room_left (words_of (past_in x)) (journal_limit s) q in
         inl (record { cost = omega (arith, few, z); room = omega (arith, room, h.tables.journal) })
     by (inr q) =
         let none = any_reversed (λ (e : Entry). is_ending e.act) x.journal.entries in

@@ -12,14 +12,14 @@ use Rattle.jx_base.specs.Basics.{numbered}
 use Rattle.jx_base.specs.Histories.{Past}
 use Rattle.jx_base.proofs.BasicLaws.{ap2}
 use Rattle.jx_model.proofs.Acting.{acting_within}
-use Rattle.jx_model.specs.Domains.{is_birth, makes_domain}
+use Rattle.jx_model.specs.Domains.{ended_by, ended_by_act, is_birth, makes_domain}
 use Rattle.jx_model.specs.Permits.{acting_thread, is_choice, is_create, is_create_entry, is_ending, is_halt, zero_may}
 use Rattle.jx_model.specs.Replies.{reply_to}
 use Rattle.jx_model.specs.Tables.{StandsFor, ThreadRecord, state_or_over, thread_record, thread_records}
 use Rattle.jx_model.specs.Threads.{served_after, service_threads, serving_state, state_after, threads_of}
 use Rattle.domain_table.specs.DomainLists as Lists
 use Rattle.nucleus.proofs.DomainReads.{threads_there}
-use Rattle.nucleus.proofs.Entered.{entered, kept_put}
+use Rattle.nucleus.proofs.Entered.{entered, kept_put, same_beside}
 use Rattle.nucleus.specs.Entering.{IsThreadAct, done_entry, thread_state_after}
 use Rattle.nucleus.specs.Inner.{IsOf, IsPermittedIn, kept_in, past_in, state_of, with_put}
 use Rattle.nucleus.specs.Stepping.{IsEntered}
@@ -115,7 +115,7 @@ module _ (s : System) (x : Tables) (d t : ℕ) where
 
   thread_put : (a : Act) → IsPermittedIn s x d t a → IsThreadAct a →
       IsEntered s (state_of x) (state_of (with_put (moved a) (done_entry d t a))) (done_entry d t a) × (is_birth (done_entry d t a) ≡ false)
-  unfolding reply_to is_ending is_create_entry is_create is_birth makes_domain is_choice
+  unfolding reply_to is_ending is_create_entry is_create is_birth makes_domain is_choice ended_by ended_by_act
   thread_put a h p = by a h p
     where
       stands : (a : Act) → IsPermittedIn s x d t a → reply.Done ≡ reply_to s (past_in x) d a → is_plain_act a ≡ true →
@@ -125,11 +125,11 @@ module _ (s : System) (x : Tables) (d t : ℕ) where
       by : (a : Act) → IsPermittedIn s x d t a → IsThreadAct a →
           IsEntered s (state_of x) (state_of (with_put (moved a) (done_entry d t a))) (done_entry d t a) × (is_birth (done_entry d t a) ≡ false)
       by (act.Go k) h p =
-          (entered s x (moved (act.Go k)) d t (act.Go k) reply.Done h refl refl refl refl (subst (StandsFor s) (sym (kept_put x (moved (act.Go k)) (done_entry d t (act.Go k)) refl (omega arith) refl)) (stands (act.Go k) h refl refl)), refl)
+          (entered s x (moved (act.Go k)) d t (act.Go k) reply.Done h refl refl (same_beside s x (moved (act.Go k)) (done_entry d t (act.Go k)) h.tables refl refl refl refl refl) (subst (StandsFor s) (sym (kept_put x (moved (act.Go k)) (done_entry d t (act.Go k)) refl (omega arith) refl)) (stands (act.Go k) h refl refl)), refl)
       by act.Yield h p =
-          (entered s x (moved act.Yield) d t act.Yield reply.Done h refl refl refl refl (subst (StandsFor s) (sym (kept_put x (moved act.Yield) (done_entry d t act.Yield) refl (omega arith) refl)) (stands act.Yield h refl refl)), refl)
+          (entered s x (moved act.Yield) d t act.Yield reply.Done h refl refl (same_beside s x (moved act.Yield) (done_entry d t act.Yield) h.tables refl refl refl refl refl) (subst (StandsFor s) (sym (kept_put x (moved act.Yield) (done_entry d t act.Yield) refl (omega arith) refl)) (stands act.Yield h refl refl)), refl)
       by (act.EndThread c) h p =
-          (entered s x (moved (act.EndThread c)) d t (act.EndThread c) reply.Done h refl refl refl refl (subst (StandsFor s) (sym (kept_put x (moved (act.EndThread c)) (done_entry d t (act.EndThread c)) refl (omega arith) refl)) (stands (act.EndThread c) h refl refl)), refl)
+          (entered s x (moved (act.EndThread c)) d t (act.EndThread c) reply.Done h refl refl (same_beside s x (moved (act.EndThread c)) (done_entry d t (act.EndThread c)) h.tables refl refl refl refl refl) (subst (StandsFor s) (sym (kept_put x (moved (act.EndThread c)) (done_entry d t (act.EndThread c)) refl (omega arith) refl)) (stands (act.EndThread c) h refl refl)), refl)
       by _ h p = absurd p
 
   -- a go, a yield or an end-thread

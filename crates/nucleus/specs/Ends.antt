@@ -8,6 +8,7 @@ use Rattle.jx_base.specs.declared.program.System.{System}
 use Rattle.domain_table.specs.DomainLists as Lists
 use Rattle.extent_pool.specs.Taken.{with_run}
 use Rattle.jx_model.specs.Granules.{Run}
+use Rattle.portal_table.specs.ServiceLists.{without_domain}
 use Rattle.table_steps.specs.Steps.{heap_in}
 use Rattle.table_threads.specs.Changes.{changed_at}
 use Rattle.nucleus.specs.declared.tables.Tables.{Tables}
@@ -18,11 +19,12 @@ IsEndingAct (act.Exit code) why = why ≡ reason.Exit code
 IsEndingAct (act.End r) why = why ≡ r
 IsEndingAct _ why = ⊥
 
--- the domain has ended, and its heap's granules are free
+-- the domain has ended, it holds no portals, and its heap's granules are free
 abbrev pub with_ended : System → Tables → ℕ → Reason → Tables
 with_ended s x d why =
     let run : Run = heap_in s x.domains.domains d in
     record x {
       domains = record x.domains { domains = changed_at (d - 1) (Lists.ended why) x.domains.domains };
       pool = with_run x.pool run.0 run.1 false;
+      services = without_domain x.services d;
     }

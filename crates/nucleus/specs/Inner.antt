@@ -15,7 +15,7 @@ use Rattle.nucleus.specs.declared.tables.Tables.{Tables}
 abbrev pub past_in : Tables → Past
 past_in x = reverse x.journal.entries
 
--- what is kept: there are no services, calls and memory objects by now
+-- what is kept: there are no calls and memory objects by now
 abbrev pub kept_in : Tables → Kept
 kept_in x =
     record {
@@ -25,8 +25,8 @@ kept_in x =
       creates = x.creates;
       domains = x.domains.domains;
       threads = x.domains.threads;
-      services = [];
-      names = [];
+      services = x.services.services;
+      names = x.services.binds;
       calls = [];
       waiting = [];
       parts = [];
@@ -37,7 +37,16 @@ kept_in x =
 
 -- what a nucleus with these tables is seen as
 abbrev pub state_of : Tables → NucleusState
-state_of x = record { kept = kept_in x; journal = x.journal.limit; domains = x.domains.limit; boots = x.boots.items }
+state_of x =
+    record {
+      kept = kept_in x;
+      journal = x.journal.limit;
+      domains = x.domains.limit;
+      boots = x.boots.items;
+      ended = x.services.ended;
+      serving = x.domains.services;
+      names = x.services.words;
+    }
 
 -- the tables are those of a nucleus of the system
 abbrev pub IsOf : System → Tables → Type 0

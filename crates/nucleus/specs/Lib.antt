@@ -4,3 +4,4 @@ pub mod Inner
 pub mod Entering
 pub mod Births
 pub mod Ends
+pub mod Portals

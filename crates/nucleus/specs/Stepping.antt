@@ -1,6 +1,7 @@
 -- What a step of the nucleus does, by its answer.
 use Rattle.std.specs.Prelude.{◌≡◌, ◌⊎◌, ◌∷◌, ℕ, true, false, Some}
 use Rattle.jx_base.specs.declared.act.Act.{Act}
+use Rattle.jx_base.specs.declared.act.Act.TheVariants as act
 use Rattle.jx_base.specs.declared.act.Entry.{Entry}
 use Rattle.jx_base.specs.declared.act.Reply.{Reply}
 use Rattle.jx_base.specs.declared.act.Reply.TheVariants as reply
@@ -21,11 +22,18 @@ use Rattle.nucleus.specs.declared.step.Ending.TheVariants as ending
 use Rattle.nucleus.specs.declared.step.Step.{Step}
 use Rattle.nucleus.specs.declared.step.Step.TheVariants as step
 
--- the act may be asked for: of Domain Zero or of a domain that was made, well made, and one that has code
+-- the nucleus enters the act: an export, a bind, a lookup, or an act with code
+abbrev pub HasEntry : Act → Type 0
+HasEntry (act.Export iface k) = Unit {0}
+HasEntry (act.Bind name service) = Unit {0}
+HasEntry (act.Lookup name) = Unit {0}
+HasEntry a = IsSupported a
+
+-- the act may be asked for: of Domain Zero or of a domain that was made, well made, and one that the nucleus enters
 pub record MayCome (s : System) (past : Past) (d : ℕ) (a : Act) : Type 0 where
   pub domain : (d ≡ 0) ⊎ (is_made past d ≡ true)
   pub well_made : IsWellMade s past a
-  pub supported : IsSupported a
+  pub has_entry : HasEntry a
 
 -- ---- an entry was made
 

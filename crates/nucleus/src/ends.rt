@@ -12,7 +12,7 @@ use extent_pool::heap_granules;
 use jx_base::{Act, DomainId, Reason, Reply, System, ThreadId};
 
 impl Tables {
-    // Ends a live domain: its heap's granules are free.
+    // Ends a live domain: it holds no portals, and its heap's granules are free.
     fn end_domain(&mut self, system: &System, domain: DomainId, reason: Reason)
         requires tables { IsOf system.now self.old }
         requires live { is_live (past_in self.old) domain.0 ≡ true }
@@ -22,6 +22,7 @@ impl Tables {
         self.domains.end(domain, reason);
         self.pool
             .give(ended.at, heap_granules(system, ended.template));
+        self.services.end_domain(domain);
     }
 
     /// Enters an exit, or the end of a domain, for that reason.

@@ -8,6 +8,7 @@ mod entering;
 mod nucleus;
 mod opening;
 mod permitting;
+mod portals;
 mod reading;
 mod step;
 mod stepping;

@@ -10,6 +10,7 @@ use domain_table::Domains;
 use extent_pool::Pool;
 use journal::Journal;
 use jx_base::{OutOfMemory, System};
+use portal_table::Services;
 use std::alloc::Global;
 
 // The templates that are created at the start, in the plan's order.
@@ -41,6 +42,7 @@ impl Tables {
             boots: boots(alloc, system)?,
             domains: Domains::open(alloc, system)?,
             pool: Pool::open(alloc, system.plan.granules)?,
+            services: Services::open(alloc, system.plan.journal)?,
         })
     }
 }

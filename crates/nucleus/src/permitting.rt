@@ -6,9 +6,9 @@ ghost use Rattle.jx_base.specs.Histories.{Past};
 ghost use Rattle.jx_model.specs.Domains.{is_live};
 ghost use Rattle.jx_model.specs.Journal as Journal;
 ghost use Rattle.jx_model.specs.Permits as Permits;
-ghost use Rattle.jx_model.specs.WellMade.{IsSupported};
 ghost use Rattle.jx_model.specs.WhyNot as WhyNot;
 ghost use Rattle.nucleus.specs.Inner.{IsOf, past_in};
+ghost use Rattle.nucleus.specs.Stepping.{HasEntry};
 
 use crate::tables::Tables;
 use jx_base::{Act, DomainId, System, ThreadId, ThreadState, Why};
@@ -91,7 +91,7 @@ impl Tables {
     // Whether a live domain in which no thread runs may perform the act.
     fn permit_asleep(&self, system: &System, domain: DomainId, act: &Act) -> Result<ThreadId, Why>
         requires tables { IsOf system.now self.now }
-        requires supported { IsSupported act.now }
+        requires act { HasEntry act.now }
         requires live { is_live (past_in self.now) domain.0 ≡ true }
         ensures may { IfOk result (λ t.
             Permits.choice_thread (past_in self.now) domain.0 act.now ≡ Some t.0) }
@@ -113,7 +113,7 @@ impl Tables {
 
     // Whether the running thread of a domain may perform the act.
     fn permit_running(thread: ThreadId, act: &Act) -> Result<ThreadId, Why>
-        requires supported { IsSupported act.now }
+        requires act { HasEntry act.now }
         requires domain { Permits.is_zero_act act.now ≡ false }
         ensures same { IfOk result (λ t. t ≡ thread) }
         ensures may { (past : Past) (d : ℕ) → IfOk result (λ t.
@@ -140,7 +140,7 @@ impl Tables {
         act: &Act,
     ) -> Result<ThreadId, Why>
         requires tables { IsOf system.now self.now }
-        requires supported { IsSupported act.now }
+        requires act { HasEntry act.now }
         requires live { is_live (past_in self.now) domain.0 ≡ true }
         requires domain { Permits.is_zero_act act.now ≡ false }
         ensures may { IfOk result (λ t.

@@ -77,6 +77,11 @@ impl Tables {
                 self.enter_end(system, domain, thread, Act::Exit(code), Reason::Exit(code))
             }
             Act::End(reason) => self.enter_end(system, domain, thread, Act::End(reason), reason),
+            Act::Export { iface, threads } => {
+                self.enter_export(system, domain, thread, iface, threads)
+            }
+            Act::Bind { name, service } => self.enter_bind(system, domain, thread, name, service),
+            Act::Lookup { name } => self.enter_lookup(system, domain, thread, name),
             Act::Go(number) => {
                 let state = self.resumed(domain, thread);
                 self.enter_thread(system, domain, thread, Act::Go(number), state)

@@ -3,9 +3,11 @@
 use domain_table::Domains;
 use extent_pool::Pool;
 use journal::Journal;
+use portal_table::Services;
 
 /// The entries, whether one of them ended the run, how many creates are among them, the templates
-/// that are created at the start, the domains with their threads, and the machine's granules.
+/// that are created at the start, the domains with their threads, the machine's granules, and the
+/// services with their names.
 #[derive(Drop)]
 pub struct Tables {
     pub journal: Journal,
@@ -14,4 +16,5 @@ pub struct Tables {
     pub boots: Vec<u32>,
     pub domains: Domains,
     pub pool: Pool,
+    pub services: Services,
 }

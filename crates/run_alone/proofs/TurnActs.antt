@@ -18,6 +18,7 @@ use Rattle.domain_machine.specs.Fates.{IsSettled}
 use Rattle.domain_machine.specs.Machines.{HasRun, HasTaken, IsEntryOf, IsLife, IsNextAct, IsNextOf, StandsFor}
 use Rattle.domain_machine.specs.declared.next.Next.{Next}
 use Rattle.domain_machine.specs.declared.next.Next.TheVariants as next
+use Rattle.nucleus.proofs.SupportedEntries.{supported_has_entry}
 use Rattle.nucleus.specs.NucleusStates.{IsNucleusOf, NucleusState}
 use Rattle.nucleus.specs.Stepping.{IsEntered, MayCome}
 use Rattle.supported_acts.specs.SupportedActs.{AreSupported, LacksCode}
@@ -161,7 +162,7 @@ module _ (s : System) (w : Worker) (h : IsGoing s w) (d : ℕ) (a : Act) (t : Is
   not_zeros = turn_not_zeros s (past_in w) d the_actor.0.template a the_code able t.act u
 
   pub may_come : MayCome s (past_in w) d a
-  may_come = record { domain = inr (is_made_at (past_in w) d (acts_made (past_in w) d able)); well_made = t.well_made; supported = u }
+  may_come = record { domain = inr (is_made_at (past_in w) d (acts_made (past_in w) d able)); well_made = t.well_made; has_entry = supported_has_entry a u }
 
   pub asked : CanBeAsked s (past_in w) d a
   asked = record { going = h.going; actor = inr (acts_live (past_in w) d able); room = inl t.domain.free.room }

@@ -12,5 +12,6 @@ returns-clause-tables c =
       boots = c.in_ok-boots.field-0;
       domains = c.in_ok-open-2.field-0;
       pool = c.in_ok-open-3.field-0;
+      services = c.in_ok-open-4.field-0;
     } in
-    open_is_of c.args.system.now x refl refl c.in_ok-open.ensures c.in_ok-open-2.ensures c.in_ok-open-3.ensures c.requires c.in_ok-boots.ensures
+    open_is_of c.args.system.now x refl refl c.in_ok-open.ensures c.in_ok-open-2.ensures c.in_ok-open-3.ensures c.in_ok-open-4.ensures c.requires c.in_ok-boots.ensures

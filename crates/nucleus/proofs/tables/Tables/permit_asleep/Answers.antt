@@ -24,4 +24,4 @@ returns-else-has_yielded-clause-why c =
     ap (why_not_asleep past d) c.in-Go.is ∙ stays past d c.in-Go.thread (ap (passes is_yielded) (sym state) ∙ sym c.has_yielded.ensures ∙ c.if-has_yielded.false)
 
 pub returns-in_default : goal.returns-in_default
-returns-in_default c = record { may = tt; why = asleep (past_in c.args.self.now) c.args.domain.0 c.args.act.now c.requires.supported c.in_default.not-Go }
+returns-in_default c = record { may = tt; why = asleep (past_in c.args.self.now) c.args.domain.0 c.args.act.now c.requires.act c.in_default.not-Go }

@@ -17,6 +17,6 @@ pub returns-in_default : goal.returns-in_default
 returns-in_default c =
     record {
       same = refl;
-      may = λ past d. performs past d c.args.thread.0 c.args.act.now c.requires.supported c.requires.domain c.in_default.not-Go c.in_default.not-EndThread;
+      may = λ past d. performs past d c.args.thread.0 c.args.act.now c.requires.act c.requires.domain c.in_default.not-Go c.in_default.not-EndThread;
       why = λ past d. tt;
     }

@@ -15,7 +15,7 @@ use Rattle.run_alone.proofs.worker.Worker.create.Goals as goal
 pub step-requires-clause-act : goal.step-requires-clause-act
 unfolding is_supported
 step-requires-clause-act c =
-    record { domain = inl refl; well_made = boot_there c.args.system.now (past_in c.args.self.now) c.args.template c.requires.boot; supported = refl }
+    record { domain = inl refl; well_made = boot_there c.args.system.now (past_in c.args.self.now) c.args.template c.requires.boot; has_entry = refl }
 
 pub returns-in-Born : goal.returns-in-Born
 unfolding is_supported is_ending

@@ -1,5 +1,6 @@
 use Rattle.std.proofs.Common.{refl, inl}
 use Rattle.table_threads.specs.CallChanges.{entry}
+use Rattle.nucleus.proofs.SupportedEntries.{supported_has_entry}
 use Rattle.run_alone.proofs.Actors.{kept}
 use Rattle.run_alone.proofs.Entered.{is_done, is_replied, zero_asked}
 use Rattle.run_alone.proofs.KindsOfActs.{last_makes_none, last_supported, last_well_made}
@@ -10,7 +11,7 @@ use Rattle.run_alone.proofs.worker.Worker.end_run.Goals as goal
 pub step-requires-clause-act : goal.step-requires-clause-act
 step-requires-clause-act c =
     let s = c.args.system.now in let past = past_in c.args.self.now in let ends = c.requires.last.ends in
-    record { domain = inl refl; well_made = last_well_made s past c.args.act ends; supported = last_supported c.args.act ends }
+    record { domain = inl refl; well_made = last_well_made s past c.args.act ends; has_entry = supported_has_entry c.args.act (last_supported c.args.act ends) }
 
 pub unreachable-requires : goal.unreachable-requires
 unreachable-requires c =

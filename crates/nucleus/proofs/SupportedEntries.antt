@@ -1,0 +1,11 @@
+-- An act with code is one that the nucleus enters.
+use Rattle.jx_base.specs.declared.act.Act.{Act}
+use Rattle.jx_base.specs.declared.act.Act.TheVariants as act
+use Rattle.jx_model.specs.WellMade.{IsSupported}
+use Rattle.nucleus.specs.Stepping.{HasEntry}
+
+pub supported_has_entry : (a : Act) → IsSupported a → HasEntry a
+supported_has_entry (act.Export iface k) u = tt
+supported_has_entry (act.Bind name k) u = tt
+supported_has_entry (act.Lookup name) u = tt
+supported_has_entry _ u = u

@@ -1,0 +1,29 @@
+-- Replies to acts on services and names, and what an export does to the tables.
+use Rattle.std.specs.Prelude.{ℕ, [], ◌∷◌, ◌++◌}
+use Rattle.jx_base.specs.declared.act.Reply.{Reply}
+use Rattle.jx_base.specs.declared.act.Reply.TheVariants as reply
+use Rattle.jx_base.specs.declared.ids.ClassId.{ClassId}
+use Rattle.domain_table.specs.DomainLists as Lists
+use Rattle.portal_table.specs.ServiceLists.{ServicesState, new_service}
+use Rattle.nucleus.specs.declared.tables.Tables.{Tables}
+
+-- a reply to an export, a bind or a lookup
+abbrev pub IsPortalReply : Reply → Type 0
+IsPortalReply (reply.Service k c) = Unit {0}
+IsPortalReply (reply.Refused r) = Unit {0}
+IsPortalReply reply.NoName = Unit {0}
+IsPortalReply reply.Done = Unit {0}
+IsPortalReply _ = ⊥
+
+-- the tables with those services
+abbrev pub with_services : Tables → ServicesState → Tables
+with_services x services = record x { services = services }
+
+-- where the reply is a service, that was made, and so many threads are idle for it
+abbrev pub with_service : Tables → ℕ → ClassId → ℕ → Reply → Tables
+with_service x d iface count (reply.Service k c) =
+    record x {
+      services = record x.services { services = x.services.services ++ new_service d iface ∷ [] };
+      domains = Lists.with_idle x.domains d k count;
+    }
+with_service x d iface count _ = x
