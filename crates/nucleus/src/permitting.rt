@@ -24,7 +24,8 @@ impl Tables {
     // Whether Domain Zero may create the template now.
     fn permit_create(&self, system: &System, template: u32) -> Result<(), Why>
         requires tables { IsOf system.now self.now }
-        ensures may { IfOk result (λ _. Permits.next_boot system.now (past_in self.now) ≡ Some template) }
+        ensures may { IfOk result (λ _.
+            Permits.next_boot system.now (past_in self.now) ≡ Some template) }
         ensures why { IfErr result (λ why.
             WhyNot.why_not_zero system.now (past_in self.now) (Create template) ≡ Some why) }
     {
@@ -43,7 +44,8 @@ impl Tables {
     // Whether the run may end in quiet now.
     fn permit_quiet(&self, system: &System) -> Result<(), Why>
         requires tables { IsOf system.now self.now }
-        ensures may { IfOk result (λ _. Permits.zero_may system.now (past_in self.now) Quiet ≡ true) }
+        ensures may { IfOk result (λ _.
+            Permits.zero_may system.now (past_in self.now) Quiet ≡ true) }
         ensures why { IfErr result (λ why.
             WhyNot.why_not_zero system.now (past_in self.now) Quiet ≡ Some why) }
     {
