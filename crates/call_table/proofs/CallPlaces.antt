@@ -5,6 +5,7 @@ use Rattle.std.specs.Option.{option_copied}
 use Rattle.std.proofs.lemmas.Bool.Decides.{nat_tests}
 use Rattle.std.proofs.lemmas.Option.{slice_get_past, slice_get_read, slice_get_within}
 use Rattle.jx_base.specs.Basics.{numbered}
+use Rattle.table_threads.proofs.Numbered.{numbered_place}
 use Rattle.call_table.specs.declared.calls.Call.{Call}
 
 -- ---- numbers
@@ -30,24 +31,9 @@ has_place_some calls n h = has_place calls n (λ _. Unit {0}) (by (numbered call
     by None h = cc
     by (Some c) h = tt
 
-pub numbered_place : (calls : List Call) (n : ℕ) → 1 ≤ n → numbered calls n ≡ slice_get calls (n - 1)
-unfolding numbered
-numbered_place calls zero h = absurd (omega (arith, h))
-numbered_place calls (suc i) h = ap (slice_get calls) (omega arith)
-
 pub numbered_next : (calls : List Call) (i : ℕ) → numbered calls (i + 1) ≡ slice_get calls i
 numbered_next calls i = numbered_place calls (i + 1) (omega arith) ∙ ap (slice_get calls) (omega arith)
-
-pub numbered_zero : (calls : List Call) (n : ℕ) → n < 1 → numbered calls n ≡ None
-unfolding numbered
-numbered_zero calls zero h = refl
-numbered_zero calls (suc i) h = absurd (omega (arith, h))
 
 -- what is known of the call of a number holds of the one at its place
 pub holds_there : (calls : List Call) (n : ℕ) (P : Call → Type 0) (c : Call) → IsSomeAnd (numbered calls n) P → 1 ≤ n → slice_get calls (n - 1) ≡ Some c → P c
 holds_there calls n P c h one at = subst (λ (o : Option Call). IsSomeAnd o P) (numbered_place calls n one ∙ at) h
-
--- a copy of what was read is what stands there
-pub copied_there : (calls : List Call) (i : ℕ) (o : Option (Bor Call)) → is_some o ≡ nat_lt i (length calls) → IfSome o (λ x. x.now ≡ get_or calls i x.now) → option_copied o ≡ slice_get calls i
-copied_there calls i None e h = let l : length calls ≤ i = grind (arith, nat_tests) in sym (slice_get_past calls i l)
-copied_there calls i (Some x) e h = let l : i < length calls = grind (arith, nat_tests) in sym (slice_get_read calls (length calls) i x.now refl l h)

@@ -16,7 +16,8 @@ use Rattle.call_table.specs.declared.calls.Calls.TheInside.{Inside}
 use Rattle.call_table.specs.CallLists.{CallsState, ended_for, in_state, is_pending_for}
 use Rattle.call_table.specs.Inner.{calls_state}
 use Rattle.call_table.proofs.Lists.{neither}
-use Rattle.call_table.proofs.CallPlaces.{has_place, numbered_next, numbered_place}
+use Rattle.call_table.proofs.CallPlaces.{has_place, numbered_next}
+use Rattle.table_threads.proofs.Numbered.{numbered_place}
 use Rattle.call_table.proofs.FirstCalls.{IsCallOf}
 
 -- ---- the end of a service

@@ -23,7 +23,7 @@ use Rattle.std.specs.Option.{unwrap_or}
 -- ---- what may come next
 
 -- an entry may come next only while the run isn't over
-goes_on_before : (s : System) (past : Past) (e : Entry) → IsNext s past e → is_over past ≡ false
+pub goes_on_before : (s : System) (past : Past) (e : Entry) → IsNext s past e → is_over past ≡ false
 unfolding acting_thread
 goes_on_before s past e n = by (is_over past) refl n.thread
   where
@@ -58,7 +58,7 @@ no_halt _ h = refl
 -- ---- each entry is the one that is computed
 
 -- what the worker picks, with its thread and its reply, is one entry
-entry_is_next : (s : System) (past : Past) (e : Entry) → IsNext s past e → IsPicked s past e → e ≡ next_entry s past
+pub entry_is_next : (s : System) (past : Past) (e : Entry) → IsNext s past e → IsPicked s past e → e ≡ next_entry s past
 unfolding next_entry entry_for
 entry_is_next s past e n p =
     let thread : e.thread.0 ≡ unwrap_or (acting_thread s past (pick s past).domain (pick s past).act) 0 =
@@ -67,7 +67,7 @@ entry_is_next s past e n p =
     (λ i. record { domain = record { 0 = p.domain i }; thread = record { 0 = thread i }; act = p.act i; reply = reply i })
 
 -- the run is over where the last entry ends it
-ended_is_over : (past : Past) → HasEnded past → is_over past ≡ true
+pub ended_is_over : (past : Past) → HasEnded past → is_over past ≡ true
 unfolding is_over
 ended_is_over [] h = absurd h
 ended_is_over (e ∷ past) h = ap (λ (b : Bool). b || list_any (λ x. is_ending x.act) past) h

@@ -1,5 +1,5 @@
 -- Which acts are well made: what the type of an act can't say.
-use Rattle.std.specs.Prelude.{FitsSigned, ◌≡◌, ℕ, ◌<◌, ◌≤◌, Bool, true, false, ◌&&◌, ◌⊎◌, length, Option, Some, None, is_some, IsSome, IfSome, IsTrue, nat_lt, nat_le}
+use Rattle.std.specs.Prelude.{FitsSigned, ◌≡◌, ℕ, ◌<◌, ◌≤◌, Bool, true, false, ◌&&◌, ◌⊎◌, length, Option, Some, None, is_some, IsSome, IfSome, nat_lt, nat_le}
 use Rattle.std.specs.Bool.{Decides}
 use Rattle.std.specs.List.{AllByRecursion, list_all}
 use Rattle.std.specs.Int.{w32, w64}
@@ -147,26 +147,7 @@ is_well_made s past _ = true
 abbrev pub IsWellMadeTest : System → Past → Act → Type 0
 IsWellMadeTest s past a = Decides (is_well_made s past a) (IsWellMade s past a)
 
--- ---- acts with code
-
--- whether the code of the act is there
-unfoldable pub is_supported : Act → Bool
-is_supported (act.Create t) = true
-is_supported (act.Print text) = true
-is_supported (act.Go t) = true
-is_supported (act.Exit code) = true
-is_supported act.Yield = true
-is_supported (act.EndThread c) = true
-is_supported (act.End r) = true
-is_supported act.Quiet = true
-is_supported act.Halt = true
-is_supported _ = false
-
--- the code of the act is there
-abbrev pub IsSupported : Act → Type 0
-IsSupported a = IsTrue (is_supported a)
-
 -- what a computed case opens
 unfoldable pub opened_well_made : Unit {0}
-unfolding is_portal_in is_word_in is_class is_parcel_in is_exception is_end_reason is_well_made is_supported
+unfolding is_portal_in is_word_in is_class is_parcel_in is_exception is_end_reason is_well_made
 opened_well_made = tt

@@ -16,7 +16,8 @@ use Rattle.jx_model.specs.Domains.{birth_of, is_birth, named_template, template_
 use Rattle.jx_model.specs.Legal.{HasEnded, IsAdmittedPast, IsNext}
 use Rattle.jx_model.specs.Permits.{is_ending}
 use Rattle.jx_model.specs.SingleWorker.{IsSingleWorkerHistory, pick}
-use Rattle.jx_model.specs.WellMade.{IsSupported, IsWellMade, is_supported}
+use Rattle.jx_model.specs.WellMade.{IsWellMade}
+use Rattle.supported_acts.specs.SupportedActs.{IsSupported, is_supported}
 use Rattle.jx_model.proofs.Growing.{start_admitted}
 use Rattle.link_laws.proofs.Lists.{below_length}
 use Rattle.machine_laws.proofs.NumericValues.{then_some}

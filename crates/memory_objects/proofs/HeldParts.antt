@@ -15,7 +15,7 @@ use Rattle.memory_objects.specs.declared.rows.PartRow.{PartRow}
 use Rattle.memory_objects.specs.Inner.{IsObjects}
 use Rattle.memory_objects.specs.ObjectLists.{ObjectsState, held_part, holds_in, part_or, valid_in}
 use Rattle.memory_objects.specs.Rows.{part_of, parts_of, record_of, records_of}
-use Rattle.memory_objects.proofs.RowLists.{numbered_at}
+use Rattle.table_threads.proofs.Numbered.{numbered_at}
 
 -- what passes has a number of the list
 pub test_within : {A : Type 0} (p : A → Bool) (xs : List A) (m : ℕ) → passes p (numbered xs m) ≡ true → (1 ≤ m) × (m ≤ length xs)

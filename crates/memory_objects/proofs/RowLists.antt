@@ -10,20 +10,9 @@ use Rattle.memory_objects.specs.declared.rows.HoldRow.{HoldRow}
 use Rattle.memory_objects.specs.Rows.{record_of, records_of}
 use Rattle.table_threads.specs.Changes.{changed_at}
 use Rattle.table_threads.proofs.Records.{set_changed}
+use Rattle.table_threads.proofs.Numbered.{numbered_at}
 
 -- ---- numbers
-
--- what has a number stands at the place before it
-pub numbered_at : {A : Type 0} (xs : List A) (d place : ℕ) → 1 ≤ d → place ≡ d - 1 → numbered xs d ≡ slice_get xs place
-unfolding numbered
-numbered_at xs zero place h e = absurd (omega (arith, h))
-numbered_at xs (suc i) place h e = ap (slice_get xs) (omega (arith, e))
-
--- nothing has the number 0
-pub numbered_zero : {A : Type 0} (xs : List A) (d : ℕ) → d < 1 → numbered xs d ≡ None
-unfolding numbered
-numbered_zero xs zero h = refl
-numbered_zero xs (suc i) h = absurd (omega (arith, h))
 
 -- ---- rows
 

@@ -10,7 +10,7 @@ use Rattle.jx_model.specs.Tables.{ObjectRecord}
 use Rattle.jx_laws.proofs.Lineage.{Falls, lineage_steps}
 use Rattle.table_threads.specs.Changes.{each_from, each_record}
 use Rattle.table_threads.proofs.Records.{is_that, not_that, same_or_not}
-use Rattle.memory_objects.proofs.RowLists.{numbered_at}
+use Rattle.table_threads.proofs.Numbered.{numbered_at}
 use Rattle.memory_objects.specs.ObjectLists.{revoked_in, valid_in}
 use Rattle.memory_objects.specs.Rows.{IsNode, IsTree}
 

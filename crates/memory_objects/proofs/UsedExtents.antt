@@ -12,7 +12,8 @@ use Rattle.table_threads.proofs.Records.{any_at, any_more}
 use Rattle.memory_objects.specs.declared.rows.HoldRow.{HoldRow}
 use Rattle.memory_objects.specs.declared.rows.PartRow.{PartRow}
 use Rattle.memory_objects.specs.Rows.{part_of, parts_of, record_of, records_of}
-use Rattle.memory_objects.proofs.RowLists.{no_row, numbered_at}
+use Rattle.memory_objects.proofs.RowLists.{no_row}
+use Rattle.table_threads.proofs.Numbered.{numbered_at}
 
 -- what stands for a part where there is none
 abbrev pub no_part : PartRow

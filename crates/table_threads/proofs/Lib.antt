@@ -11,3 +11,4 @@ pub mod Places
 pub mod CallRecords
 pub mod CallActs
 pub mod Binds
+pub mod Numbered

@@ -5,7 +5,7 @@ use Rattle.std.proofs.Common.{arith, subst, sym, inl}
 use Rattle.jx_base.specs.declared.act.Entry.{Entry}
 use Rattle.jx_base.specs.declared.act.History.{History}
 use Rattle.jx_base.specs.declared.program.System.{System}
-use Rattle.supported_acts.specs.SupportedActs.{HasSupportedActs}
+use Rattle.supported_acts.specs.SupportedActs.{HasSupportedActs, is_supported}
 use Rattle.jx_model.specs.Legal.{IsAdmitted}
 use Rattle.opened_models.specs.Opened.{opened_model}
 use Rattle.test_audit_text.specs.HandMade.{small_template, small_system, plain_entry, odd_text, hand_made}
@@ -49,7 +49,7 @@ is_admitted s h p q =
     (subst (λ (entries : List Entry). IsAdmitted small_system (record { entries = entries })) (sym q) admitted)
 
 supported : HasSupportedActs made
-unfolding opened_model plain_entry hand_made
+unfolding opened_model plain_entry hand_made is_supported
 supported = (refl, (refl, (refl, (refl, (refl, (refl, (refl, (refl, tt))))))))
 
 pub has_supported_acts : (h : History) → h.entries ≡ hand_made → HasSupportedActs h

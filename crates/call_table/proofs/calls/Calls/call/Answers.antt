@@ -2,7 +2,7 @@ use Rattle.std.proofs.Common.{◌∙◌, ◌<◌, ◌≤◌, sym, ap, List, slic
 use Rattle.call_table.specs.declared.calls.Call.{Call}
 use Rattle.jx_base.specs.Basics.{numbered}
 use Rattle.call_table.specs.CallLists.{CallsState}
-use Rattle.call_table.proofs.CallPlaces.{copied_there, numbered_place, numbered_zero}
+use Rattle.table_threads.proofs.Numbered.{copied_there, numbered_place, numbered_zero}
 use Rattle.call_table.proofs.calls.Calls.call.Goals as goal
 
 pub returns-in_err-place : goal.returns-in_err-place

@@ -5,7 +5,8 @@ use Rattle.std.proofs.lemmas.Option.{slice_get_read}
 use Rattle.jx_base.specs.Basics.{numbered}
 use Rattle.call_table.specs.declared.calls.Call.{Call}
 use Rattle.call_table.specs.CallLists.{CallsState}
-use Rattle.call_table.proofs.CallPlaces.{has_place_some, numbered_place}
+use Rattle.call_table.proofs.CallPlaces.{has_place_some}
+use Rattle.table_threads.proofs.Numbered.{numbered_place}
 use Rattle.call_table.proofs.calls.Calls.state.Goals as goal
 
 pub overflow_sub-call : goal.overflow_sub-call

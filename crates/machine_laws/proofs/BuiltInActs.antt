@@ -18,7 +18,7 @@ use Rattle.program_model.specs.Ranges.{is_service_name}
 use Rattle.machine_model.specs.BuiltInMethods.{BuiltInMethod, BuiltInOutcome, Effect, Gives, HasNoRoom, Performs, Raises, Unfit, act_if, append_of, appended_bool, appended_number, appended_text, appended_unit, bind, builder_constructor, builder_effects, built_in_method, built_in_outcome, constructor, constructor_effects, copy, effects_of, export, export_of, fill, first_cell, identity_test, int_act, interface_named, is_of, is_short, is_thread_count, lookup, memory_act, memory_effects, memory_int_act, memory_ints_act, message_constructor, message_effects, object_effects, pause, result_value, string_effects, text_act, text_cells, text_concatenation, text_hash, text_length, text_of, text_test, text_unit, unit_at, with_new_text, zero_effects}
 use Rattle.machine_model.specs.State.{Store, cells_of, class_of_object, new_object}
 use Rattle.machine_laws.proofs.Lists.{all_append, all_found}
-use Rattle.run_alone.proofs.CodeActs.{IsCodeAct}
+use Rattle.machine_laws.proofs.CodeActs.{IsCodeAct}
 
 -- what it performs is an act of code
 abbrev pub PerformsOfCode : BuiltInOutcome → Type 0

@@ -32,8 +32,8 @@ use Rattle.program_model.specs.Instructions.{index_operand}
 use Rattle.program_model.specs.Lookup.{constant_at, is_built_in, shape_fits, shape_fits_class}
 use Rattle.program_model.specs.Parcels.{packed}
 use Rattle.program_model.specs.Types.{is_void}
-use Rattle.run_alone.proofs.BuiltInActs.{PerformsOfCode, built_in_of}
-use Rattle.run_alone.proofs.CodeActs.{IsCodeAct}
+use Rattle.machine_laws.proofs.BuiltInActs.{PerformsOfCode, built_in_of}
+use Rattle.machine_laws.proofs.CodeActs.{IsCodeAct}
 
 -- what it asks for is an act of code
 abbrev pub AsksOfCode : ObjectOutcome → Type 0

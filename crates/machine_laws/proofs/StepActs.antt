@@ -21,8 +21,8 @@ use Rattle.machine_model.specs.Running.{Ask, Step, StepOutcome, after_numeric, a
 use Rattle.machine_model.specs.State.{Bad, Going, Returned, Stage, State, Thread, Threw, class_of_frame, class_of_object, code_bytes, stack_limit}
 use Rattle.program_model.specs.Instructions.{Reading, instruction_at}
 use Rattle.program_model.specs.Parcels.{packed}
-use Rattle.run_alone.proofs.CodeActs.{IsCodeAct}
-use Rattle.run_alone.proofs.RowActs.{AsksOfCode, object_asks}
+use Rattle.machine_laws.proofs.CodeActs.{IsCodeAct}
+use Rattle.machine_laws.proofs.RowActs.{AsksOfCode, object_asks}
 
 -- what it asks for is an act of code
 abbrev pub StepsOfCode : StepOutcome → Type 0
