@@ -13,7 +13,8 @@ use Rattle.jx_base.specs.Histories.{Past}
 use Rattle.jx_model.specs.Journal.{words_of, entry_words, act_words, reply_words, is_full}
 use Rattle.jx_model.specs.Permits.{acting_thread, zero_may, zero_may_now, domains_wait, domain_thread, is_ending, is_halt, is_over, next_boot}
 use Rattle.jx_model.specs.Legal.{IsNext, IsAdmittedPast}
-use Rattle.jx_model.specs.WellMade.{IsWellMade, IsSupported, is_supported}
+use Rattle.jx_model.specs.WellMade.{IsWellMade}
+use Rattle.supported_acts.specs.SupportedActs.{IsSupported, is_supported}
 use Rattle.audit_model.specs.AuditText.{before_last}
 use Rattle.audit_text.specs.Rendering.{IsSupportedEntry, IsSupportedReply}
 use Rattle.audit_text.proofs.Sums.{entry_sum}

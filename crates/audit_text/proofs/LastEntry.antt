@@ -7,7 +7,7 @@ use Rattle.jx_base.specs.declared.act.Act.TheVariants as act
 use Rattle.jx_base.specs.declared.act.Entry.{Entry}
 use Rattle.std.proofs.lemmas.List.{reverse-append}
 use Rattle.jx_model.specs.Journal.{words_of}
-use Rattle.jx_model.specs.WellMade.{IsSupported, is_supported}
+use Rattle.supported_acts.specs.SupportedActs.{IsSupported, is_supported}
 use Rattle.audit_model.specs.AuditText.{before_last, end_word, end_word_of}
 use Rattle.audit_text.specs.Rendering.{IsSupportedEntry}
 use Rattle.audit_text.proofs.SupportedActs.{all_of_append}

@@ -7,4 +7,5 @@ pub mod UsedGranules
 pub mod JournalWords
 pub mod LastEntry
 pub mod ReasonTable
+pub mod SpacedTexts
 pub mod AuditParts

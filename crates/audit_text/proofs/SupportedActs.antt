@@ -21,7 +21,7 @@ use Rattle.jx_model.specs.MemoryObjects.{is_allocation, makes_extent, extents_ma
 use Rattle.jx_model.specs.Granules.{first_fit, heap_granules}
 use Rattle.jx_model.specs.Replies.{reply_to, new_domain, ◌refuses◌else◌, given_or}
 use Rattle.jx_model.specs.Legal.{IsNext, IsAdmitted, IsAdmittedPast}
-use Rattle.jx_model.specs.WellMade.{IsSupported, is_supported}
+use Rattle.supported_acts.specs.SupportedActs.{IsSupported, is_supported}
 use Rattle.jx_base.proofs.NthEntries.{count_same}
 use Rattle.audit_text.specs.Rendering.{IsSupportedReply, IsSupportedEntry, made_template, own_reason}
 use Rattle.supported_acts.specs.SupportedActs.{HasSupportedActs}

@@ -17,7 +17,7 @@ use Rattle.jx_model.specs.Domains.{domains_made, birth_of, is_birth, makes_domai
 use Rattle.jx_model.specs.Granules.{Run, heap_granules, heap_run, run_if, heap_runs, extent_runs, used_runs, run_granules, used_granules, first_fit}
 use Rattle.jx_model.specs.Replies.{reply_to, new_domain, ◌refuses◌else◌, given_or}
 use Rattle.jx_model.specs.Legal.{IsNext, IsAdmittedPast}
-use Rattle.jx_model.specs.WellMade.{IsSupported, is_supported}
+use Rattle.supported_acts.specs.SupportedActs.{IsSupported, is_supported}
 use Rattle.jx_base.proofs.NthEntries.{count_new, count_same}
 use Rattle.audit_text.specs.Rendering.{IsSupportedEntry, made_template, total, where_live}
 use Rattle.audit_text.proofs.Births.{each_birth, same_up_to}

@@ -9,12 +9,15 @@ use Rattle.jx_base.specs.declared.act.Reason.TheVariants as reason
 use Rattle.jx_base.specs.declared.act.Reply.{Reply}
 use Rattle.jx_base.specs.declared.act.Reply.TheVariants as reply
 use Rattle.jx_base.specs.declared.program.System.{System}
+use Rattle.jx_base.specs.declared.value.Node.{Node}
+use Rattle.jx_base.specs.declared.value.Parcel.{Parcel}
+use Rattle.jx_base.specs.declared.value.Word.{Word}
 use Rattle.jx_base.specs.Histories.{Past}
 use Rattle.jx_base.specs.Texts.{after_space, spaced}
-use Rattle.audit_model.specs.Audit.{template_text, act_word, act_operands, reply_word, reply_operands}
+use Rattle.audit_model.specs.Audit.{template_text, method_text, word_text, node_text, parcel_text, act_word, act_operands, reply_word, reply_operands}
 use Rattle.audit_model.specs.AuditText.{standing_words}
 use Rattle.jx_model.specs.Domains.{end_reason}
-use Rattle.jx_model.specs.WellMade.{IsSupported}
+use Rattle.supported_acts.specs.SupportedActs.{IsSupported}
 
 -- the reply is one to an act with code
 abbrev pub IsSupportedReply : Reply → Type 0
@@ -28,6 +31,10 @@ pub record IsSupportedEntry (e : Entry) : Type 0 where
   pub act : IsSupported e.act
   pub reply : IsSupportedReply e.reply
 
+-- words, each behind a space
+abbrev pub behind : List (List ℕ) → List ℕ
+behind words = flat_map after_space words
+
 -- the words of an act, each behind a space
 unfoldable pub spaced_act : System → Act → List ℕ
 spaced_act s a = flat_map after_space (act_word a ∷ act_operands s a)
@@ -35,6 +42,18 @@ spaced_act s a = flat_map after_space (act_word a ∷ act_operands s a)
 -- the words of a reply, each behind a space
 unfoldable pub spaced_reply : System → Reply → List ℕ
 spaced_reply s r = flat_map after_space (reply_word r ∷ reply_operands s r)
+
+-- a word, a service, a method and a parcel, each behind a space
+unfoldable pub asked_text : System → List ℕ → ℕ → ℕ → Parcel → List ℕ
+asked_text s word k m p = behind (word ∷ decimal k ∷ method_text s m ++ parcel_text s p ∷ [])
+
+-- a word of a parcel behind a space
+abbrev pub spaced_word : Word → List ℕ
+spaced_word w = after_space (word_text w)
+
+-- a node of a parcel behind a space
+abbrev pub spaced_node : System → Node → List ℕ
+spaced_node s n = after_space (node_text s n)
 
 -- the number of an entry, its domain and its thread
 unfoldable pub actor_text : ℕ → Entry → List ℕ

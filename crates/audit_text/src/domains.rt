@@ -9,7 +9,7 @@ ghost use Rattle.audit_text.specs.Rendering.{HasReasons, IsSupportedEntry, made_
 ghost use Rattle.audit_text.specs.Rendering.{standing_text, domain_text, whole_line};
 ghost use Rattle.page_text.specs.Writes.{Writes};
 
-use crate::entries::template_name;
+use crate::names::template_name;
 use crate::reasons::EndReasons;
 use jx_base::{Act, DomainId, Entry, Failed, Reason, Reply, Sink, System};
 use page_text::{Page, Piece, write_behind, write_words};

@@ -1,11 +1,16 @@
 //! The audit of a history, put by way of a page.
 #![tactic(auto)]
 
+mod acts;
 mod audit;
 mod console;
 mod domains;
 mod entries;
+mod names;
+mod parcels;
 mod reasons;
+mod replies;
 mod totals;
+mod words;
 
 pub use audit::render;

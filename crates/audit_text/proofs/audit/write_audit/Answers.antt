@@ -6,9 +6,6 @@ use Rattle.page_text.proofs.Writing.{writes_then, writes_stop}
 use Rattle.audit_text.proofs.AuditParts.{audit_text-parts}
 use Rattle.audit_text.proofs.audit.write_audit.Goals as goal
 
-pub write_entries-requires : goal.write_entries-requires
-write_entries-requires g c = rw c.as_slice-entries.ensures (entries_supported c.args.system.now c.args.history.now c.requires.admitted c.requires.supported)
-
 pub write_after-requires-clause-admitted : goal.write_after-requires-clause-admitted
 unfolding past_of
 write_after-requires-clause-admitted g c = rw c.as_slice-entries.ensures c.requires.admitted

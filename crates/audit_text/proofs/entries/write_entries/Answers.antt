@@ -3,11 +3,8 @@ use Rattle.std.proofs.lemmas.List.{drop_all}
 use Rattle.std.proofs.lemmas.Result.{err_from_is_err_and}
 use Rattle.audit_model.specs.AuditText.{entry_lines}
 use Rattle.page_text.proofs.Writing.{completes_more, completes_stop, completes_end}
-use Rattle.audit_text.proofs.EntryLines.{entry_lines-more, entry_supported}
+use Rattle.audit_text.proofs.EntryLines.{entry_lines-more}
 use Rattle.audit_text.proofs.entries.write_entries.Goals as goal
-
-pub write_entry-requires : goal.write_entry-requires
-write_entry-requires g c = entry_supported c.args.entries.now c.loop-entry.entry-index c.entry-item.result c.requires c.entry-item.is (omega arith)
 
 pub returns-in_err-write_entry : goal.returns-in_err-write_entry
 returns-in_err-write_entry g c =
