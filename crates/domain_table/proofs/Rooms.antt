@@ -1,42 +1,24 @@
 -- What the lists of threads show, and what holds of each.
-use Rattle.std.proofs.Common.{◌≡◌, refl, sym, ap, subst, ◌∙◌, ℕ, suc, zero, ◌+◌, ◌*◌, ◌-◌, ◌<◌, ◌≤◌, Bool, cond, not, List, [], ◌∷◌, ◌++◌, length, map, take, drop, set, replicate, get_or, Option, Some, None, is_some, slice_get, Bor, arith}
-use Rattle.std.specs.Prelude.{IfSome, IsSome, IsSomeAnd, nat_lt}
+use Rattle.std.proofs.Common.{◌≡◌, refl, sym, ap, subst, ◌∙◌, ℕ, suc, zero, ◌+◌, ◌*◌, ◌-◌, ◌<◌, ◌≤◌, Bool, cond, not, List, [], ◌∷◌, ◌++◌, length, map, take, drop, set, replicate, Option, Some, None, slice_get, arith}
+use Rattle.std.specs.Prelude.{IsSome, IsSomeAnd}
 use Rattle.std.specs.List.{AllByRecursion, position, position_or_len}
-use Rattle.std.specs.Option.{option_and_then, option_copied}
-use Rattle.std.proofs.lemmas.Bool.Decides.{nat_tests}
+use Rattle.std.specs.Option.{option_and_then}
 use Rattle.std.proofs.lemmas.List.{length-map}
 use Rattle.std.proofs.lemmas.List.Quantifiers.{position-Some}
-use Rattle.std.proofs.lemmas.Option.{slice_get_past, slice_get_read, slice_get_within}
+use Rattle.std.proofs.lemmas.Option.{slice_get_within}
 use Rattle.jx_base.specs.declared.act.Reason.{Reason}
 use Rattle.jx_base.specs.declared.ids.ServiceId.{ServiceId}
 use Rattle.jx_base.specs.declared.states.DomainState.{DomainState}
 use Rattle.jx_base.specs.Basics.{numbered}
 use Rattle.jx_model.specs.Tables.{ThreadRecord}
+use Rattle.table_threads.proofs.Numbered.{numbered_from_one, numbered_place}
 use Rattle.table_threads.specs.Changes.{changed_at}
 use Rattle.table_threads.specs.ThreadChanges.{idle_record, own_added, own_changed}
 use Rattle.domain_table.specs.declared.domains.Domains.TheInside.{Inside}
 use Rattle.domain_table.specs.DomainLists.{DomainsState, ThreadsState, HasThread, IsLive, live_threads_in, of_live}
 use Rattle.domain_table.specs.Inner.{HasRoom, IsDomains, domains_state}
 
--- ---- numbers
-
--- what has a number stands at the place before it
-pub numbered_place : {A : Type 0} (xs : List A) (d : ℕ) → 1 ≤ d → numbered xs d ≡ slice_get xs (d - 1)
-unfolding numbered
-numbered_place xs zero h = absurd (omega (arith, h))
-numbered_place xs (suc i) h = ap (slice_get xs) (omega arith)
-
--- nothing has the number 0
-pub numbered_zero : {A : Type 0} (xs : List A) (d : ℕ) → d < 1 → numbered xs d ≡ None
-unfolding numbered
-numbered_zero xs zero h = refl
-numbered_zero xs (suc i) h = absurd (omega (arith, h))
-
--- what has a number has one from 1
-pub numbered_from_one : {A : Type 0} (xs : List A) (d : ℕ) (x : A) → numbered xs d ≡ Some x → 1 ≤ d
-unfolding numbered
-numbered_from_one xs zero x h = cc
-numbered_from_one xs (suc i) x h = omega arith
+-- ---- changes by numbers
 
 -- a thread changed where it stands
 pub changed_place : (d t : ℕ) (f : ThreadRecord → ThreadRecord) (table : List (List ThreadRecord)) → 1 ≤ d → own_changed d t f table ≡ changed_at (d - 1) (changed_at t f) table
@@ -47,11 +29,6 @@ changed_place (suc i) t f table h = ap (λ (k : ℕ). changed_at k (changed_at t
 pub added_place : (d : ℕ) (new : List ServiceId) (table : List (List ThreadRecord)) → 1 ≤ d → own_added d new table ≡ changed_at (d - 1) (λ items. items ++ map idle_record new) table
 added_place zero new table h = absurd (omega (arith, h))
 added_place (suc i) new table h = ap (λ (k : ℕ). changed_at k (λ items. items ++ map idle_record new) table) (omega arith)
-
--- a copy of what was read is what stands there
-pub copied_there : {A : Type 0} (xs : List A) (i : ℕ) (o : Option (Bor A)) → is_some o ≡ nat_lt i (length xs) → IfSome o (λ x. x.now ≡ get_or xs i x.now) → option_copied o ≡ slice_get xs i
-copied_there xs i None e h = let l : length xs ≤ i = grind (arith, nat_tests) in sym (slice_get_past xs i l)
-copied_there xs i (Some x) e h = let l : i < length xs = grind (arith, nat_tests) in sym (slice_get_read xs (length xs) i x.now refl l h)
 
 -- ---- what is shown
 

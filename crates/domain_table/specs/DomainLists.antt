@@ -1,7 +1,7 @@
 -- What a table of domains is seen as: plain lists, the domain of number n at place n - 1.
-use Rattle.std.specs.Prelude.{◌≡◌, ℕ, ◌+◌, ◌≤◌, Bool, List, [], ◌∷◌, ◌++◌, replicate, Option, Some, None, IsSome, IsSomeAnd, slice_get}
+use Rattle.std.specs.Prelude.{◌≡◌, ℕ, ◌+◌, ◌≤◌, Bool, List, [], ◌∷◌, ◌++◌, replicate, Option, Some, None, IsSome, IsSomeAnd, length, slice_get}
 use Rattle.std.specs.List.{position}
-use Rattle.std.specs.Option.{option_and_then}
+use Rattle.std.specs.Option.{option_and_then, option_map, unwrap_or}
 use Rattle.jx_base.specs.declared.act.Reason.{Reason}
 use Rattle.jx_base.specs.declared.ids.CallId.{CallId}
 use Rattle.jx_base.specs.declared.ids.DomainId.{DomainId}
@@ -11,7 +11,7 @@ use Rattle.jx_base.specs.declared.states.ThreadState.{ThreadState}
 use Rattle.jx_base.specs.declared.states.ThreadState.TheVariants as thread
 use Rattle.jx_base.specs.Basics.{numbered}
 use Rattle.jx_model.specs.Tables.{ThreadRecord}
-use Rattle.jx_model.specs.Permits.{is_yielded}
+use Rattle.jx_model.specs.Permits.{is_idle_for, is_waiting_for, is_yielded}
 use Rattle.jx_model.specs.Threads.{is_running_state}
 use Rattle.domain_table.specs.declared.rows.ThreadRow.{ThreadRow}
 use Rattle.table_threads.specs.ThreadChanges.{first_records, own_added}
@@ -42,6 +42,12 @@ is_running r = is_running_state r.state
 
 abbrev pub has_yielded : ThreadRecord → Bool
 has_yielded r = is_yielded r.state
+
+abbrev pub is_idle : ℕ → ThreadRecord → Bool
+is_idle k r = is_idle_for k r.state
+
+abbrev pub waits_for : ℕ → ThreadRecord → Bool
+waits_for c r = is_waiting_for c r.state
 
 -- ---- domains
 
@@ -104,3 +110,15 @@ running_in x d = option_and_then (λ records. position is_running records) (live
 -- the least thread of a domain that has yielded, where it lives
 abbrev pub yielded_in : DomainsState → ℕ → Option ℕ
 yielded_in x d = option_and_then (λ records. position has_yielded records) (live_threads_in x d)
+
+-- the least idle thread of a domain for the service, where it lives
+abbrev pub idle_in : DomainsState → ℕ → ℕ → Option ℕ
+idle_in x d k = option_and_then (λ records. position (is_idle k) records) (live_threads_in x d)
+
+-- the least thread of a domain that waits for the call, where it lives
+abbrev pub waiting_in : DomainsState → ℕ → ℕ → Option ℕ
+waiting_in x d c = option_and_then (λ records. position (waits_for c) records) (live_threads_in x d)
+
+-- how many threads a domain has, where it lives
+abbrev pub thread_count : DomainsState → ℕ → ℕ
+thread_count x d = unwrap_or (option_map (λ (records : List ThreadRecord). length records) (live_threads_in x d)) 0

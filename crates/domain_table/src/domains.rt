@@ -3,7 +3,7 @@ ghost use Rattle.std.specs.Prelude.{◌≡◌, ◌+◌, ◌++◌, ◌∷◌, ◌
 ghost use Rattle.std.specs.Option.{option_and_then, option_map};
 ghost use Rattle.domain_table.specs.DomainLists.{HasThread, IsLive, IsThreadCount};
 ghost use Rattle.domain_table.specs.DomainLists.{record_of, ended, live_threads_in, new_domain, running_in, thread_in};
-ghost use Rattle.domain_table.specs.DomainLists.{with_domain, with_idle, with_state, yielded_in};
+ghost use Rattle.domain_table.specs.DomainLists.{idle_in, thread_count, waiting_in, with_domain, with_idle, with_state, yielded_in};
 ghost use Rattle.jx_base.specs.Basics.{numbered};
 ghost use Rattle.program_model.specs.Limits.{domain_limit};
 ghost use Rattle.table_threads.specs.Changes.{changed_at};
@@ -139,6 +139,30 @@ impl Domains {
         ensures { option_map (λ t. t.0) result ≡ yielded_in self.now domain.0 }
     {
         Some(ThreadId(self.live_threads(domain)?.yielded()? as u32))
+    }
+
+    /// The least thread of a live domain that is idle for the service. `None` where none is.
+    pub fn idle(&self, domain: DomainId, service: ServiceId) -> Option<ThreadId>
+        ensures { option_map (λ t. t.0) result ≡ idle_in self.now domain.0 service.0 }
+    {
+        Some(ThreadId(self.live_threads(domain)?.idle(service)? as u32))
+    }
+
+    /// The least thread of a live domain that waits for the call. `None` where none does.
+    pub fn waiting(&self, domain: DomainId, call: CallId) -> Option<ThreadId>
+        ensures { option_map (λ t. t.0) result ≡ waiting_in self.now domain.0 call.0 }
+    {
+        Some(ThreadId(self.live_threads(domain)?.waiting(call)? as u32))
+    }
+
+    /// How many threads a live domain has. 0 for one that ended or wasn't made.
+    pub fn threads(&self, domain: DomainId) -> u32
+        ensures { result ≡ thread_count self.now domain.0 }
+    {
+        match self.live_threads(domain) {
+            Some(threads) => threads.len() as u32,
+            None => 0,
+        }
     }
 
     /// Adds so many idle threads of a new service to a live domain.

@@ -59,4 +59,24 @@ impl ThreadRow {
     {
         matches!(self.state, ThreadState::Yielded)
     }
+
+    #[tactic(auto, unfolding(jx_model::specs::Permits::is_idle_for))]
+    pub fn is_idle_for(&self, service: ServiceId) -> bool
+        ensures { result ≡ Permits.is_idle_for service.0 self.now.state }
+    {
+        match self.state {
+            ThreadState::Idle(idle) => idle.0 == service.0,
+            _ => false,
+        }
+    }
+
+    #[tactic(auto, unfolding(jx_model::specs::Permits::is_waiting_for))]
+    pub fn waits_for(&self, call: CallId) -> bool
+        ensures { result ≡ Permits.is_waiting_for call.0 self.now.state }
+    {
+        match self.state {
+            ThreadState::Waiting(awaited) => awaited.0 == call.0,
+            _ => false,
+        }
+    }
 }

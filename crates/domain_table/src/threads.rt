@@ -2,12 +2,12 @@
 ghost use Rattle.std.specs.Prelude.{◌≡◌, ◌+◌, ◌++◌, ◌<◌, ◌≤◌, [], IfOk, length, map, replicate, option_map, slice_get};
 ghost use Rattle.std.specs.List.{position};
 ghost use Rattle.std.specs.Option.{option_map};
-ghost use Rattle.domain_table.specs.DomainLists.{has_yielded, is_running, record_of, with_state};
+ghost use Rattle.domain_table.specs.DomainLists.{has_yielded, is_idle, is_running, record_of, waits_for, with_state};
 ghost use Rattle.table_threads.specs.Changes.{changed_at};
 ghost use Rattle.table_threads.specs.ThreadChanges.{first_records, idle_record};
 
 use crate::rows::ThreadRow;
-use jx_base::{OutOfMemory, ServiceId, ThreadState};
+use jx_base::{CallId, OutOfMemory, ServiceId, ThreadState};
 use std::alloc::Global;
 use std::marker::Model;
 
@@ -21,6 +21,18 @@ fn first_yielded(rows: &[ThreadRow]) -> Option<usize>
     ensures { result ≡ position (λ row. has_yielded (record_of row)) rows.now }
 {
     rows.iter().position(|row| row.has_yielded())
+}
+
+fn first_idle(rows: &[ThreadRow], service: ServiceId) -> Option<usize>
+    ensures { result ≡ position (λ row. is_idle service.0 (record_of row)) rows.now }
+{
+    rows.iter().position(|row| row.is_idle_for(service))
+}
+
+fn first_waiting(rows: &[ThreadRow], call: CallId) -> Option<usize>
+    ensures { result ≡ position (λ row. waits_for call.0 (record_of row)) rows.now }
+{
+    rows.iter().position(|row| row.waits_for(call))
 }
 
 /// The threads of a domain by their numbers, with room for so many, which is reserved.
@@ -95,6 +107,27 @@ impl Threads {
         ensures { result ≡ position has_yielded self.now.records }
     {
         first_yielded(self.rows.as_slice())
+    }
+
+    /// The least thread that is idle for the service.
+    pub fn idle(&self, service: ServiceId) -> Option<usize>
+        ensures { result ≡ position (is_idle service.0) self.now.records }
+    {
+        first_idle(self.rows.as_slice(), service)
+    }
+
+    /// The least thread that waits for the call.
+    pub fn waiting(&self, call: CallId) -> Option<usize>
+        ensures { result ≡ position (waits_for call.0) self.now.records }
+    {
+        first_waiting(self.rows.as_slice(), call)
+    }
+
+    /// How many threads there are.
+    pub fn len(&self) -> usize
+        ensures { result ≡ length self.now.records }
+    {
+        self.rows.len()
     }
 
     pub fn set_state(&mut self, thread: u32, state: ThreadState)

@@ -16,18 +16,6 @@ use Rattle.portal_table.specs.ServiceLists.{IsService, ServicesState, live_servi
 use Rattle.portal_table.specs.ServicesInside.{record_of}
 use Rattle.portal_table.specs.declared.services.Service.{Service}
 
--- nothing has the number 0
-pub numbered_zero : {A : Type 0} (xs : List A) (k : ℕ) → (1 ≤ k → ⊥) → numbered xs k ≡ None
-unfolding numbered
-numbered_zero xs zero n = refl
-numbered_zero xs (suc k) n = absurd (n (omega arith))
-
--- what has a number stands at the place before it
-pub numbered_place : {A : Type 0} (xs : List A) (k i : ℕ) → 1 ≤ k → i ≡ k - 1 → numbered xs k ≡ slice_get xs i
-unfolding numbered
-numbered_place xs zero i l q = absurd (omega (arith, l))
-numbered_place xs (suc k) i l q = ap (slice_get xs) (omega (arith, q))
-
 -- a copy of what was read is what stands there
 pub copied_place : {A B : Type 0} (f : A → B) (xs : List A) (i : ℕ) (o : Option (Bor A)) → is_some o ≡ nat_lt i (length xs) → IfSome o (λ x. x.now ≡ get_or xs i x.now) →
     option_map f (option_copied o) ≡ slice_get (map f xs) i

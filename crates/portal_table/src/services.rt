@@ -1,5 +1,5 @@
 //! The services, and who holds portals to them.
-ghost use Rattle.std.specs.Prelude.{◌≡◌, ◌++◌, ◌∷◌, ◌≤◌, [], IfOk, IfSome, false, if◌then◌else◌, length, nat_lt, replicate};
+ghost use Rattle.std.specs.Prelude.{◌≡◌, ◌++◌, ◌∷◌, ◌≤◌, [], IfOk, IfSome, None, false, if◌then◌else◌, length, nat_lt, replicate};
 ghost use Rattle.std.specs.Option.{option_map};
 ghost use Rattle.domain_flags.specs.FlagLists.{IsDomain, with_flag};
 ghost use Rattle.jx_base.specs.Basics.{numbered};
@@ -113,7 +113,8 @@ impl Services {
 
     /// The domain that exported the service, and its interface. `None` where it wasn't made.
     pub fn owner(&self, service: ServiceId) -> Option<(DomainId, ClassId)>
-        ensures { option_map (λ o. (o.0.0, o.1)) result ≡ owner_of self.now service.0 }
+        ensures owner { option_map (λ o. (o.0.0, o.1)) result ≡ owner_of self.now service.0 }
+        ensures made { result ≡ None → numbered self.now.services service.0 ≡ None }
     {
         let service = self.get(service)?;
         Some((service.owner, service.interface))

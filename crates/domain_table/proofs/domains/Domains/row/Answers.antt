@@ -3,7 +3,8 @@ use Rattle.std.specs.Option.{option_and_then, option_map}
 use Rattle.std.proofs.lemmas.Option.{slice_get_past, slice_get_read}
 use Rattle.jx_model.specs.Tables.{ThreadRecord}
 use Rattle.domain_table.specs.DomainLists.{DomainsState, ThreadsState, record_of, thread_in}
-use Rattle.domain_table.proofs.Rooms.{numbered_zero, thread_at}
+use Rattle.domain_table.proofs.Rooms.{thread_at}
+use Rattle.table_threads.proofs.Numbered.{numbered_zero}
 use Rattle.domain_table.proofs.domains.Domains.row.Goals as goal
 
 pub returns-in_err-place : goal.returns-in_err-place

@@ -2,7 +2,7 @@ use Rattle.std.proofs.Common.{◌∙◌, ◌<◌, ◌≤◌, sym, ap, List, arit
 use Rattle.jx_base.specs.declared.states.DomainState.{DomainState}
 use Rattle.jx_base.specs.Basics.{numbered}
 use Rattle.domain_table.specs.DomainLists.{DomainsState}
-use Rattle.domain_table.proofs.Rooms.{copied_there, numbered_place, numbered_zero}
+use Rattle.table_threads.proofs.Numbered.{copied_there, numbered_place, numbered_zero}
 use Rattle.domain_table.proofs.domains.Domains.state.Goals as goal
 
 pub returns-in_err-place : goal.returns-in_err-place

@@ -1,0 +1,14 @@
+use Rattle.std.proofs.Common.{◌∙◌, ap, List}
+use Rattle.std.specs.List.{position}
+use Rattle.domain_table.specs.DomainLists.{ThreadsState, is_idle, record_of}
+use Rattle.domain_table.specs.declared.rows.ThreadRow.{ThreadRow}
+use Rattle.domain_table.proofs.Rooms.{position_map}
+use Rattle.domain_table.proofs.threads.Threads.idle.Goals as goal
+
+pub returns : goal.returns
+returns c =
+    let rows = c.self.inside.rows.items in
+    c.first_idle.ensures
+    ∙ ap (λ (rs : List ThreadRow). position (λ r. is_idle c.args.service.0 (record_of r)) rs) c.as_slice.ensures.value
+    ∙ position_map record_of (is_idle c.args.service.0) rows
+    ∙ ap (λ (x : ThreadsState). position (is_idle c.args.service.0) x.records) c.self.view_is
