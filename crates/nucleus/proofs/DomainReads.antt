@@ -35,7 +35,7 @@ use Rattle.nucleus.specs.declared.tables.Tables.{Tables}
 -- ---- the first place that passes
 
 -- counted from any number
-place_is : {A : Type 0} (p : A → Bool) (a : ℕ) (xs : List A) → Reads.place_from p a xs ≡ cond (ltb (position_or_len p xs) (length xs)) (Some (a + position_or_len p xs)) None
+pub place_is : {A : Type 0} (p : A → Bool) (a : ℕ) (xs : List A) → Reads.place_from p a xs ≡ cond (ltb (position_or_len p xs) (length xs)) (Some (a + position_or_len p xs)) None
 place_is p a [] = refl
 place_is {A} p a (x ∷ xs) = by (p x) (place_is p (a + 1) xs)
   where
@@ -156,65 +156,6 @@ module _ (s : System) (x : Tables) (h : IsOf s x) (d : ℕ) where
 
   -- ---- choices
 
-  no_resume : (items : List ThreadRecord) → first_some (λ (item : ThreadRecord). Reads.resume_by (domain_records s (past_in x)) [] item.state) items ≡ None
-  unfolding first_some passes numbered
-  no_resume [] = refl
-  no_resume (item ∷ items) = by item.state (no_resume items)
-    where
-      by : (z : ThreadState) → first_some (λ (item : ThreadRecord). Reads.resume_by (domain_records s (past_in x)) [] item.state) items ≡ None →
-          (elim (Reads.resume_by (domain_records s (past_in x)) [] z) as (λ _. Option Act) [ Some y ↦ Some y | None ↦ first_some (λ (item : ThreadRecord). Reads.resume_by (domain_records s (past_in x)) [] item.state) items ]) ≡ None
-      by (thread.Waiting c) e = none_waits c.0 e
-        where
-          none_waits : (n : ℕ) → first_some (λ (item : ThreadRecord). Reads.resume_by (domain_records s (past_in x)) [] item.state) items ≡ None →
-              (elim (if Reads.resumable_in (domain_records s (past_in x)) [] n then Some (act.Resume c) else None) as (λ _. Option Act) [ Some y ↦ Some y | None ↦ first_some (λ (item : ThreadRecord). Reads.resume_by (domain_records s (past_in x)) [] item.state) items ]) ≡ None
-          none_waits zero e = e
-          none_waits (suc n) e = e
-      by thread.Running e = e
-      by thread.Yielded e = e
-      by (thread.Idle k) e = e
-      by (thread.Serving k) e = e
-      by thread.Over e = e
-
-  no_take : (items : List ThreadRecord) (services : List ServiceId) → first_some (λ (k : ServiceId). Reads.take_by items [] [] k.0) services ≡ None
-  unfolding first_some
-  no_take items [] = refl
-  no_take items (k ∷ services) = by (is_some (Reads.thread_in items (is_idle_for k.0))) (no_take items services)
-    where
-      by : (b : Bool) → first_some (λ (k : ServiceId). Reads.take_by items [] [] k.0) services ≡ None →
-          (elim (if b then option_map (λ c. act.Take (record { 0 = c })) (Reads.head_in [] [] k.0) else None) as (λ _. Option Act) [ Some y ↦ Some y | None ↦ first_some (λ (k : ServiceId). Reads.take_by items [] [] k.0) services ]) ≡ None
-      by true e = e
-      by false e = e
-
-  -- the first choice by the records
-  by_records : first_choice (past_in x) d ≡ Reads.choice_by (domain_records s (past_in x)) (thread_records (past_in x) d) [] [] (service_threads (past_in x) d) d
-  by_records =
-      choice_by_records s (past_in x) d
-      ∙ ap2 (λ (calls : List CallRecord) (waiting : List ℕ). Reads.choice_by (domain_records s (past_in x)) (thread_records (past_in x) d) calls waiting (service_threads (past_in x) d) d) (sym h.stands.calls) (sym h.stands.waiting)
-
-  -- there are no calls, so the first choice is a go
-  pub choice_is : Lists.running_in x.domains d ≡ None → first_choice (past_in x) d ≡ option_map (λ t. act.Go (record { 0 = t })) (Lists.yielded_in x.domains d)
-  choice_is q =
-      by_records
-      ∙ by (Reads.lives_in (domain_records s (past_in x)) d) (sym (lives_by_records s (past_in x) d)) (Reads.running_in (domain_records s (past_in x)) (thread_records (past_in x) d) d) (sym (running_by_records s (past_in x) d) ∙ sym running_is ∙ q)
-    where
-      first : Option Act
-      first = option_or (first_some (λ (item : ThreadRecord). Reads.resume_by (domain_records s (past_in x)) [] item.state) (thread_records (past_in x) d))
-          (option_or (first_some (λ (k : ServiceId). Reads.take_by (thread_records (past_in x) d) [] [] k.0) (service_threads (past_in x) d))
-          (option_map (λ t. act.Go (record { 0 = t })) (Reads.thread_in (thread_records (past_in x) d) is_yielded)))
-
-      first_is : first ≡ option_map (λ t. act.Go (record { 0 = t })) (Reads.thread_in (thread_records (past_in x) d) is_yielded)
-      first_is =
-          ap2 (λ (a b : Option Act). option_or a (option_or b (option_map (λ t. act.Go (record { 0 = t })) (Reads.thread_in (thread_records (past_in x) d) is_yielded))))
-          (no_resume (thread_records (past_in x) d)) (no_take (thread_records (past_in x) d) (service_threads (past_in x) d))
-
-      by : (b : Bool) → b ≡ is_live (past_in x) d → (o : Option ℕ) → o ≡ None →
-          (if b && is_none o then first else None) ≡ option_map (λ t. act.Go (record { 0 = t })) (Lists.yielded_in x.domains d)
-      by b q (Some t) r = cc
-      by true q None r =
-          first_is ∙ ap (option_map (λ t. act.Go (record { 0 = t }))) (sym (thread_by_records (past_in x) d is_yielded) ∙ ap (λ (b : Bool). if b then thread_where (past_in x) d is_yielded else None) q ∙ sym (first_thread is_yielded))
-      by false q None r =
-          ap (option_map (λ t. act.Go (record { 0 = t }))) (ap (λ (b : Bool). if b then thread_where (past_in x) d is_yielded else None) q ∙ sym (first_thread is_yielded))
-
   -- where a thread runs there is none
   pub no_choice : (t : ℕ) → Lists.running_in x.domains d ≡ Some t → first_choice (past_in x) d ≡ None
   unfolding first_choice
@@ -230,13 +171,8 @@ module _ (s : System) (x : Tables) (h : IsOf s x) (d : ℕ) where
   unfolding can_act
   runs_can o q r = ap (λ (o : Option ℕ). is_some o || is_some (first_choice (past_in x) d)) (sym running_is ∙ sym q) ∙ ap (λ (b : Bool). b || is_some (first_choice (past_in x) d)) r
 
-  pub yielded_can : (o v : Option ℕ) → o ≡ Lists.running_in x.domains d → is_some o ≡ false → v ≡ Lists.yielded_in x.domains d → can_act (past_in x) d ≡ is_some v
+  pub rests_can : (o : Option ℕ) → o ≡ Lists.running_in x.domains d → is_some o ≡ false → can_act (past_in x) d ≡ is_some (first_choice (past_in x) d)
   unfolding can_act
-  yielded_can (Some t) v q r e = cc
-  yielded_can None v q r e =
-      ap2 (λ (o : Option ℕ) (a : Option Act). is_some o || is_some a) (sym running_is ∙ sym q) (choice_is (sym q) ∙ ap (option_map (λ t. act.Go (record { 0 = t }))) (sym e))
-      ∙ mapped v
-    where
-      mapped : (v : Option ℕ) → is_some (option_map (λ t. act.Go (record { 0 = t })) v) ≡ is_some v
-      mapped None = refl
-      mapped (Some t) = refl
+  rests_can o q r =
+      ap (λ (o : Option ℕ). is_some o || is_some (first_choice (past_in x) d)) (sym running_is ∙ sym q)
+      ∙ ap (λ (b : Bool). b || is_some (first_choice (past_in x) d)) r

@@ -17,7 +17,7 @@ use Rattle.jx_model.specs.Domains.{is_live}
 use Rattle.jx_model.specs.Threads.{running_thread}
 use Rattle.jx_model.specs.Tables.{ThreadRecord, state_or_over}
 use Rattle.jx_model.specs.Threads.{served_after, state_after}
-use Rattle.jx_model.specs.WellMade.{is_supported}
+use Rattle.supported_acts.specs.SupportedActs.{is_supported}
 use Rattle.domain_table.specs.DomainLists as Lists
 use Rattle.nucleus.specs.Entering.{IsPlain, thread_state_after}
 use Rattle.nucleus.specs.Inner.{IsPermittedIn, past_in}

@@ -6,6 +6,11 @@ mod ThreadsMoved
 mod RunsTaken
 mod NewDomains
 mod EnteredActs
+mod MappedLists
+mod NumberedPlaces
+mod FirstSome
+mod CallReads
+mod OwnedServices
 mod EndedTables
 mod OpenTables
 mod OneChanged

@@ -33,7 +33,7 @@ use Rattle.program_model.specs.Lookup.{template_at}
 use Rattle.program_model.specs.Plans.{IsTemplateInRange}
 use Rattle.extent_pool.specs.Taken.{is_taken}
 use Rattle.nucleus.proofs.DomainReads.{made_count}
-use Rattle.nucleus.proofs.Entered.{entered, kept_put, same_beside}
+use Rattle.nucleus.proofs.Entered.{entered_beside_calls, kept_with, same_beside}
 use Rattle.nucleus.proofs.RunsTaken.{least_is, run_taken}
 use Rattle.nucleus.specs.Births.{IsBorn, with_newborn}
 use Rattle.nucleus.specs.Inner.{IsOf, IsPermittedIn, kept_in, past_in, state_of, with_put}
@@ -145,42 +145,34 @@ abbrev pub created : Tables → Tables
 created x = record x { creates = x.creates + 1 }
 
 module _ (s : System) (x : Tables) (t : ℕ) (p : IsPermittedIn s x 0 0 (act.Create t)) where
-  -- what is kept of tables with the create
-  kept_created : (y : Tables) (r : Reply) → y.over ≡ x.over → y.journal ≡ x.journal →
-      kept_in (with_put (created (record y { creates = x.creates })) (entry 0 0 (act.Create t) r))
-      ≡ record (Steps.with_entry (kept_in x) (entry 0 0 (act.Create t) r)) { domains = y.domains.domains; threads = y.domains.threads; services = y.services.services; names = y.services.binds; taken = y.pool }
-  unfolding is_ending is_create_entry is_create
-  kept_created y r o j = kept_put x (created (record y { creates = x.creates })) (entry 0 0 (act.Create t) r) o refl j
-
   -- one that is refused
   pub refused_create : (y : Tables) (r : Refusal) → new_domain s (past_in x) t ≡ reply.Refused r → y ≡ with_put (created x) (entry 0 0 (act.Create t) (reply.Refused r)) →
       IsEntered s (state_of x) (state_of y) (entry 0 0 (act.Create t) (reply.Refused r)) × (is_birth (entry 0 0 (act.Create t) (reply.Refused r)) ≡ false)
-  unfolding reply_to is_birth makes_domain ended_by ended_by_act
+  unfolding reply_to is_birth makes_domain ended_by ended_by_act is_ending is_create_entry is_create
   refused_create y r h q =
       let e : Entry = entry 0 0 (act.Create t) (reply.Refused r) in
       let stands : StandsFor s (Steps.with_entry (kept_in x) e) = stands_after_refusal s (kept_in x) 0 0 (act.Create t) r p.tables.stands (record { thread = p.thread; well_made = p.may_come.well_made; reply = sym h }) refl in (
         subst (λ (z : Tables). IsEntered s (state_of x) (state_of z) e) (sym q)
-            (entered s x (created x) 0 0 (act.Create t) (reply.Refused r) p (sym h) refl (same_beside s x (created x) e p.tables refl refl refl refl refl) (subst (StandsFor s) (sym (kept_created x (reply.Refused r) refl refl)) stands)),
+            (entered_beside_calls s x (created x) 0 0 (act.Create t) (reply.Refused r) p (sym h) refl refl refl (same_beside s x (created x) e p.tables refl refl refl refl refl (record { calls = refl; places = refl; objects = refl })) stands),
         refl,
       )
 
   -- one that makes a domain
   pub done_create : (y : Tables) (new : Newborn) → new_domain s (past_in x) t ≡ reply.Domain new.domain new.at → y ≡ with_put (created (with_newborn s x t new)) (entry 0 0 (act.Create t) (reply.Domain new.domain new.at)) →
       IsEntered s (state_of x) (state_of y) (entry 0 0 (act.Create t) (reply.Domain new.domain new.at)) × (new.domain ≡ new.domain) × (is_birth (entry 0 0 (act.Create t) (reply.Domain new.domain new.at)) ≡ true)
-  unfolding reply_to is_birth makes_domain named_template reply_granule ended_by ended_by_act
+  unfolding reply_to is_birth makes_domain named_template reply_granule ended_by ended_by_act is_ending is_create_entry is_create
   done_create y new h q =
       let e : Entry = entry 0 0 (act.Create t) (reply.Domain new.domain new.at) in
       let stands : StandsFor s (Steps.after_birth s (kept_in x) e) =
       stands_after_create s (kept_in x) 0 0 t new.domain new.at p.tables.stands (record { thread = p.thread; well_made = p.may_come.well_made; reply = sym h }) in
-      let kept : kept_in (with_put (created (with_newborn s x t new)) e) ≡ Steps.after_birth s (kept_in x) e =
-      kept_created (with_newborn s x t new) (reply.Domain new.domain new.at) refl refl
-      ∙ ap (λ (taken : List Bool). record (Steps.with_entry (kept_in x) e) {
+      let kept : Steps.after_birth s (kept_in x) e ≡ kept_with x (created (with_newborn s x t new)) e =
+      ap (λ (taken : List Bool). record (Steps.with_entry (kept_in x) e) {
         domains = x.domains.domains ++ born s e ∷ [];
         threads = x.domains.threads ++ first_records ∷ [];
         taken = taken;
-      }) (run_taken x.pool new.at (heap_granules s t)) in (
+      }) (sym (run_taken x.pool new.at (heap_granules s t))) in (
         subst (λ (z : Tables). IsEntered s (state_of x) (state_of z) e) (sym q)
-            (entered s x (created (with_newborn s x t new)) 0 0 (act.Create t) (reply.Domain new.domain new.at) p (sym h) refl (same_beside s x (created (with_newborn s x t new)) e p.tables refl refl refl refl refl) (subst (StandsFor s) (sym kept) stands)),
+            (entered_beside_calls s x (created (with_newborn s x t new)) 0 0 (act.Create t) (reply.Domain new.domain new.at) p (sym h) refl refl refl (same_beside s x (created (with_newborn s x t new)) e p.tables refl refl refl refl refl (record { calls = refl; places = refl; objects = refl })) (subst (StandsFor s) kept stands)),
         refl,
         refl,
       )

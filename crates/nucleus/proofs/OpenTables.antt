@@ -1,18 +1,24 @@
 -- The tables before the first entry, and the templates that are created at the start.
-use Rattle.std.proofs.Common.{◌≡◌, sym, ◌∙◌, ap, subst, ℕ, ◌+◌, ◌≤◌, Bool, true, false, cond, List, [], ◌∷◌, ◌++◌, filter, length, replicate, reverse, Some, arith, add-one, slice_get}
+use Rattle.std.proofs.Common.{◌≡◌, sym, ◌∙◌, ap, subst, ℕ, ◌+◌, ◌/◌, ◌≤◌, Bool, true, false, cond, List, [], ◌∷◌, ◌++◌, filter, length, replicate, reverse, Some, arith, add-one, slice_get}
 use Rattle.std.specs.List.{range_with_len}
 use Rattle.std.proofs.lemmas.List.{append-nil}
 use Rattle.std.proofs.lemmas.List.Elements.{filter-append}
 use Rattle.jx_base.specs.declared.program.System.{System}
 use Rattle.jx_base.specs.declared.program.Template.{Template}
 use Rattle.jx_base.specs.Basics.{passes, up_to}
+use Rattle.jx_base.specs.Histories.{count_where}
 use Rattle.jx_base.proofs.BasicLaws.{ap2, ap3}
 use Rattle.program_model.specs.Limits.{domain_limit, granule_limit, journal_limit}
 use Rattle.program_model.specs.Plans.{IsPlanInRange}
 use Rattle.jx_model.specs.Domains.{end_reason}
 use Rattle.jx_model.specs.Journal.{words_of}
 use Rattle.jx_model.specs.Permits.{boot_templates, is_boot_template}
-use Rattle.jx_model.specs.Tables.{Kept, StandsFor}
+use Rattle.jx_model.specs.Calls.{waiting_calls}
+use Rattle.jx_model.specs.Tables.{CallRecord, Kept, StandsFor, call_records}
+use Rattle.call_table.specs.CallLists.{CallsState}
+use Rattle.memory_objects.specs.ObjectLists.{ObjectsState}
+use Rattle.nucleus.specs.CallTables.{AreCallsOf}
+use Rattle.nucleus.specs.PlaceLists.{PlacesState}
 use Rattle.journal.specs.Journals.{JournalState}
 use Rattle.domain_table.specs.DomainLists.{DomainsState}
 use Rattle.portal_table.specs.NameLists.{name_words}
@@ -51,31 +57,37 @@ boots_without s i t q b =
 
 module _ (s : System) (x : Tables) (o : x.over ≡ false) (n : x.creates ≡ 0) (j : x.journal ≡ record { entries = []; limit = s.plan.journal })
     (d : x.domains ≡ record { domains = []; threads = []; services = 0; limit = domain_limit s }) (p : x.pool ≡ replicate s.plan.granules false)
-    (v : x.services ≡ record { services = []; ended = replicate 64 false; binds = []; words = s.plan.journal }) where
+    (v : x.services ≡ record { services = []; ended = replicate 64 false; binds = []; words = s.plan.journal })
+    (m : x.objects ≡ record { parts = []; records = []; extents = [] }) (c : x.calls ≡ record { calls = []; limit = s.plan.journal / 8 }) (r : x.places ≡ record { places = []; limit = s.plan.journal / 8 }) where
   -- what is kept of them is what is kept at the start
   open_kept : kept_in x ≡ first_kept s
-  unfolding words_of granule_limit
+  unfolding words_of granule_limit call_records waiting_calls up_to count_where
   open_kept =
       ap2 (λ (over : Bool) (creates : ℕ). let k : Kept = record (kept_in x) { over = over; creates = creates } in k) o n
       ∙ ap (λ (z : ServicesState). let k : Kept = record (kept_in x) { over = false; creates = 0; services = z.services; names = z.binds } in k) v
-      ∙ ap3 (λ (journal : JournalState) (domains : DomainsState) (taken : List Bool). kept journal domains taken) j d p
+      ∙ ap3 (λ (journal : JournalState) (domains : DomainsState) (taken : List Bool). kept journal domains taken x.objects) j d p
+      ∙ ap (kept (record { entries = []; limit = s.plan.journal }) (record { domains = []; threads = []; services = 0; limit = domain_limit s }) (replicate s.plan.granules false)) m
     where
-      kept : JournalState → DomainsState → List Bool → Kept
-      kept journal domains taken =
+      kept : JournalState → DomainsState → List Bool → ObjectsState → Kept
+      kept journal domains taken objects =
           record (first_kept s) {
             past = reverse journal.entries;
             words = words_of (reverse journal.entries);
             domains = domains.domains;
             threads = domains.threads;
+            calls = call_records (reverse journal.entries);
+            waiting = waiting_calls (reverse journal.entries);
+            parts = objects.parts;
+            objects = objects.records;
             taken = taken;
           }
 
   -- they are those of a nucleus
   pub open_is_of : IsPlanInRange s.plan → x.boots.items ≡ boot_templates s → IsOf s x
-  unfolding journal_limit end_reason up_to domain_limit
-  open_is_of r b =
+  unfolding journal_limit end_reason up_to domain_limit call_records count_where
+  open_is_of n b =
       record {
-        plan = r;
+        plan = n;
         stands = subst (StandsFor s) (sym open_kept) (stands_at_start s);
         journal = ap (λ (z : JournalState). z.limit) j;
         domains = ap (λ (z : DomainsState). z.limit) d;
@@ -84,4 +96,9 @@ module _ (s : System) (x : Tables) (o : x.over ≡ false) (n : x.creates ≡ 0) 
         serving = ap2 (λ (y : DomainsState) (z : ServicesState). y.services) d v ∙ sym (ap (λ (z : ServicesState). length z.services) v);
         names = ap (λ (z : ServicesState). z.words) v;
         cost = subst (λ (z : ServicesState). name_words z.binds ≤ words_of (past_in x)) (sym v) (omega arith);
+        calls = subst (λ (cs : List CallRecord). AreCallsOf cs x.calls.calls x.places.places) (ap (λ (z : JournalState). call_records (reverse z.entries)) (sym j))
+            (record { calls_are = ap (λ (z : CallsState). z.calls) c; places_are = ap (λ (z : PlacesState). z.places) r });
+        call_room = ap (λ (z : CallsState). z.limit) c;
+        place_room = ap (λ (z : PlacesState). z.limit) r;
+        no_objects = ap (λ (z : ObjectsState). z.records) m;
       }

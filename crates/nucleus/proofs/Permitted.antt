@@ -15,7 +15,7 @@ use Rattle.jx_model.specs.Domains.{is_live}
 use Rattle.jx_model.specs.Journal.{is_full, words_of}
 use Rattle.jx_model.specs.Permits.{acting_thread, choice_thread, domain_thread, domains_wait, first_alive, going_thread, is_choice, is_halt, is_over, is_yielded, is_zero_act, may_perform, next_boot, zero_may, zero_may_now}
 use Rattle.jx_model.specs.Threads.{running_thread, thread_state}
-use Rattle.jx_model.specs.WellMade.{is_supported}
+use Rattle.supported_acts.specs.SupportedActs.{is_supported}
 use Rattle.jx_model.specs.WhyNot.{boot_or, why_if, why_not, why_not_asleep, why_not_domain, why_not_running, why_not_zero}
 use Rattle.jx_base.proofs.BasicLaws.{ap2, ap3}
 use Rattle.nucleus.specs.Stepping.{HasEntry}

@@ -24,9 +24,9 @@ use Rattle.jx_model.specs.Legal.{IsNext}
 use Rattle.jx_model.specs.Permits.{acting_thread, is_create, is_create_entry, is_ending, is_halt, zero_may}
 use Rattle.jx_model.specs.Portals.{gives_portal, received_parcel, received_service}
 use Rattle.jx_model.specs.Replies.{portal_reply, reply_to, ◌refuses◌else◌}
-use Rattle.jx_model.specs.Tables.{ServiceRecord, StandsFor}
+use Rattle.jx_model.specs.Tables.{ServiceRecord, StandsFor, call_records}
 use Rattle.nucleus.proofs.EndedFlags.{ended_same}
-use Rattle.nucleus.proofs.Entered.{IsBeside, costs_less, entered, kept_put, same_beside}
+use Rattle.nucleus.proofs.Entered.{IsBeside, costs_less, entered_beside_calls, kept_with, left, same_beside}
 use Rattle.nucleus.proofs.PortalChanges.{handed_lookup}
 use Rattle.nucleus.proofs.Room.{goes_on, room_left}
 use Rattle.nucleus.proofs.ServiceReplies.{bind_is, export_is, found_interface, found_made, lookup_is}
@@ -145,12 +145,10 @@ sought d t name r = record { going = refl; create = refl; birth = refl; ended = 
 module _ (s : System) (x : Tables) (d t : ℕ) where
   -- the tables with such an entry
   run_put : (y : Tables) (a : Act) (r : Reply) → IsPermittedIn s x d t a → LeavesRun (entry d t a r) → r ≡ reply_to s (past_in x) d a → y.over ≡ x.over → y.creates ≡ x.creates → y.journal ≡ x.journal →
-      IsBeside s x y (entry d t a r) →
-      StandsFor s (record (Steps.with_entry (kept_in x) (entry d t a r)) { domains = y.domains.domains; threads = y.domains.threads; services = y.services.services; names = y.services.binds; taken = y.pool }) →
-      IsMadeOf s x y (entry d t a r)
+      IsBeside s x y (entry d t a r) (call_records (past_in x)) → StandsFor s (kept_with x y (entry d t a r)) → IsMadeOf s x y (entry d t a r)
   run_put y a r h l q o c j b k =
       let e : Entry = entry d t a r in
-      (entered s x y d t a r h q j b (subst (StandsFor s) (sym (kept_put x y e (o ∙ ap (λ (b : Bool). b || x.over) (sym l.going)) (c ∙ count (is_create_entry e) l.create) j)) k), l.birth)
+      (entered_beside_calls s x y d t a r h q (o ∙ ap (λ (b : Bool). b || x.over) (sym l.going)) (c ∙ count (is_create_entry e) l.create) j b k, l.birth)
     where
       count : (b : Bool) → b ≡ false → x.creates ≡ x.creates + (if b then 1 else 0)
       count false q = omega arith
@@ -162,7 +160,7 @@ module _ (s : System) (x : Tables) (d t : ℕ) where
   refused_put a r h l p q =
       let e : Entry = entry d t a (reply.Refused r) in
       let next : IsNext s (past_in x) e = record { thread = h.thread; well_made = h.may_come.well_made; reply = q } in
-      run_put x a (reply.Refused r) h l q refl refl refl (same_beside s x x e h.tables l.ended refl refl refl refl) (stands_after_refusal s (kept_in x) d t a r h.tables.stands next p)
+      run_put x a (reply.Refused r) h l q refl refl refl (same_beside s x x e h.tables l.ended refl refl refl refl (left x)) (stands_after_refusal s (kept_in x) d t a r h.tables.stands next p)
 
   -- ---- exports
 
@@ -175,13 +173,17 @@ module _ (s : System) (x : Tables) (d t : ℕ) where
       let e : Entry = entry d t a r in
       let y : Tables = with_service x d iface n r in
       let next : IsNext s (past_in x) e = record { thread = h.thread; well_made = h.may_come.well_made; reply = q } in
-      let beside : IsBeside s x y e = record {
+      let beside : IsBeside s x y e (call_records (past_in x)) = record {
         limit = refl;
         boots = refl;
         words = refl;
         ended = h.tables.ended ∙ sym (ended_same s e (past_in x) (exported d t iface n r).ended);
         serving = ap (λ (k : ℕ). k + 1) h.tables.serving ∙ sym (length-append x.services.services (Portals.new_service d iface ∷ []));
         cost = costs_less s x e h.tables;
+        calls_are = h.tables.calls;
+        call_room = refl;
+        place_room = refl;
+        no_objects = h.tables.no_objects;
       } in
       run_put y a r h (exported d t iface n r) q refl refl refl beside (stands_after_export s (kept_in x) d t iface n k iface h.tables.stands next)
 
@@ -209,13 +211,17 @@ module _ (s : System) (x : Tables) (d t : ℕ) where
       let e : Entry = entry d t a reply.Done in
       let y : Tables = with_services x (record x.services { binds = (name, k.0) ∷ x.services.binds }) in
       let next : IsNext s (past_in x) e = record { thread = h.thread; well_made = h.may_come.well_made; reply = q } in
-      let beside : IsBeside s x y e = record {
+      let beside : IsBeside s x y e (call_records (past_in x)) = record {
         limit = refl;
         boots = refl;
         words = refl;
         ended = h.tables.ended ∙ sym (ended_same s e (past_in x) (bound d t name k reply.Done).ended);
         serving = h.tables.serving;
         cost = omega (arith, h.tables.cost);
+        calls_are = h.tables.calls;
+        call_room = refl;
+        place_room = refl;
+        no_objects = h.tables.no_objects;
       } in
       run_put y a reply.Done h (bound d t name k reply.Done) q refl refl refl beside (stands_after_bind s (kept_in x) d t name k h.tables.stands next)
 
@@ -246,7 +252,7 @@ module _ (s : System) (x : Tables) (d t : ℕ) where
       let e : Entry = entry d t a reply.NoName in
       let l : LeavesRun e = sought d t name reply.NoName in
       let next : IsNext s (past_in x) e = record { thread = h.thread; well_made = h.may_come.well_made; reply = q } in
-      run_put x a reply.NoName h l q refl refl refl (same_beside s x x e h.tables l.ended refl refl refl refl) (stands_after_no_name s (kept_in x) d t name h.tables.stands next)
+      run_put x a reply.NoName h l q refl refl refl (same_beside s x x e h.tables l.ended refl refl refl refl (left x)) (stands_after_no_name s (kept_in x) d t name h.tables.stands next)
 
   gives_found : (name : List ℕ) (k : ServiceId) (c : ClassId) (j : ℕ) → gives_portal j (entry d t (act.Lookup name) (reply.Service k c)) ≡ (k.0 == j)
   unfolding gives_portal received_service received_parcel is_number passes
@@ -262,13 +268,17 @@ module _ (s : System) (x : Tables) (d t : ℕ) where
       let y : Tables = with_services x (Portals.with_holder x.services d k.0) in
       let low : 1 ≤ d = (live_made (past_in x) d (seeker_lives s (past_in x) d t name h.thread)).low in
       let next : IsNext s (past_in x) e = record { thread = h.thread; well_made = h.may_come.well_made; reply = q } in
-      let beside : IsBeside s x y e = record {
+      let beside : IsBeside s x y e (call_records (past_in x)) = record {
         limit = refl;
         boots = refl;
         words = refl;
         ended = h.tables.ended ∙ sym (ended_same s e (past_in x) l.ended);
         serving = h.tables.serving ∙ sym (length_changed (k.0 - 1) (λ item. record item { holders = with_flag d true item.holders }) x.services.services);
         cost = costs_less s x e h.tables;
+        calls_are = h.tables.calls;
+        call_room = refl;
+        place_room = refl;
+        no_objects = h.tables.no_objects;
       } in
       run_put y a r h l q refl refl refl beside
       (subst (λ (services : List ServiceRecord). StandsFor s (record (Steps.with_entry (kept_in x) e) { services = services }))

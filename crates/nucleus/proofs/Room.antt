@@ -13,7 +13,8 @@ use Rattle.jx_base.specs.Histories.{Past}
 use Rattle.jx_base.proofs.BasicLaws.{ap2}
 use Rattle.jx_model.specs.Journal.{act_words, entry_words, is_full, reply_words, words_of}
 use Rattle.jx_model.specs.Permits.{acting_thread, domain_thread, domains_wait, is_ending, is_halt, is_over, next_boot, zero_may, zero_may_now}
-use Rattle.jx_model.specs.WellMade.{IsWellMade, is_supported}
+use Rattle.jx_model.specs.WellMade.{IsWellMade}
+use Rattle.supported_acts.specs.SupportedActs.{is_supported}
 use Rattle.journal.specs.Journals.{HasRoomFor, JournalState}
 use Rattle.journal.specs.Journals as Journals
 use Rattle.program_model.specs.Limits.{entry_limit, journal_limit, name_limit, text_limit}

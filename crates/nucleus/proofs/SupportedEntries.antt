@@ -1,7 +1,7 @@
 -- An act with code is one that the nucleus enters.
 use Rattle.jx_base.specs.declared.act.Act.{Act}
 use Rattle.jx_base.specs.declared.act.Act.TheVariants as act
-use Rattle.jx_model.specs.WellMade.{IsSupported}
+use Rattle.supported_acts.specs.SupportedActs.{IsSupported}
 use Rattle.nucleus.specs.Stepping.{HasEntry}
 
 pub supported_has_entry : (a : Act) → IsSupported a → HasEntry a

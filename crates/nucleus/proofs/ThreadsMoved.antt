@@ -19,7 +19,7 @@ use Rattle.jx_model.specs.Tables.{StandsFor, ThreadRecord, state_or_over, thread
 use Rattle.jx_model.specs.Threads.{served_after, service_threads, serving_state, state_after, threads_of}
 use Rattle.domain_table.specs.DomainLists as Lists
 use Rattle.nucleus.proofs.DomainReads.{threads_there}
-use Rattle.nucleus.proofs.Entered.{entered, kept_put, same_beside}
+use Rattle.nucleus.proofs.Entered.{entered_beside_calls, same_beside}
 use Rattle.nucleus.specs.Entering.{IsThreadAct, done_entry, thread_state_after}
 use Rattle.nucleus.specs.Inner.{IsOf, IsPermittedIn, kept_in, past_in, state_of, with_put}
 use Rattle.nucleus.specs.Stepping.{IsEntered}
@@ -28,6 +28,7 @@ use Rattle.table_steps.proofs.PlainSteps.{stands_after_plain_act}
 use Rattle.table_steps.proofs.Unchanged.{is_plain_act}
 use Rattle.table_steps.specs.Steps.{moved_threads, with_entry}
 use Rattle.table_threads.proofs.Actors.{IsMade, acts_live, live_made}
+use Rattle.table_threads.proofs.Numbered.{changed_same}
 use Rattle.table_threads.proofs.Records.{get_range}
 use Rattle.table_threads.specs.Changes.{changed_at}
 use Rattle.table_threads.specs.ThreadChanges.{own_changed, runs_as, thread_record_after}
@@ -55,12 +56,6 @@ mover_there s x d t a h p =
     ap is_some (thread_there s x d t h.tables (mover_made s (past_in x) d t a p h.thread) (acting_within s (past_in x) d t a h.thread))
 
 -- ---- its record
-
--- what is changed the same way at a place where it is so
-pub changed_same : {A : Type 0} (i : ℕ) (f g : A → A) (xs : List A) → ((a : A) → slice_get xs i ≡ Some a → f a ≡ g a) → changed_at i f xs ≡ changed_at i g xs
-changed_same i f g [] h = refl
-changed_same zero f g (x ∷ xs) h = ap (λ y. y ∷ xs) (h x refl)
-changed_same (suc i) f g (x ∷ xs) h = ap (λ ys. x ∷ ys) (changed_same i f g xs h)
 
 -- the same of a thread of a domain
 pub own_same : (x : Lists.DomainsState) (d t : ℕ) (f g : ThreadRecord → ThreadRecord) → ((r : ThreadRecord) → Lists.thread_in x d t ≡ Some r → f r ≡ g r) →
@@ -125,11 +120,11 @@ module _ (s : System) (x : Tables) (d t : ℕ) where
       by : (a : Act) → IsPermittedIn s x d t a → IsThreadAct a →
           IsEntered s (state_of x) (state_of (with_put (moved a) (done_entry d t a))) (done_entry d t a) × (is_birth (done_entry d t a) ≡ false)
       by (act.Go k) h p =
-          (entered s x (moved (act.Go k)) d t (act.Go k) reply.Done h refl refl (same_beside s x (moved (act.Go k)) (done_entry d t (act.Go k)) h.tables refl refl refl refl refl) (subst (StandsFor s) (sym (kept_put x (moved (act.Go k)) (done_entry d t (act.Go k)) refl (omega arith) refl)) (stands (act.Go k) h refl refl)), refl)
+          (entered_beside_calls s x (moved (act.Go k)) d t (act.Go k) reply.Done h refl refl (omega arith) refl (same_beside s x (moved (act.Go k)) (done_entry d t (act.Go k)) h.tables refl refl refl refl refl (record { calls = refl; places = refl; objects = refl })) (stands (act.Go k) h refl refl), refl)
       by act.Yield h p =
-          (entered s x (moved act.Yield) d t act.Yield reply.Done h refl refl (same_beside s x (moved act.Yield) (done_entry d t act.Yield) h.tables refl refl refl refl refl) (subst (StandsFor s) (sym (kept_put x (moved act.Yield) (done_entry d t act.Yield) refl (omega arith) refl)) (stands act.Yield h refl refl)), refl)
+          (entered_beside_calls s x (moved act.Yield) d t act.Yield reply.Done h refl refl (omega arith) refl (same_beside s x (moved act.Yield) (done_entry d t act.Yield) h.tables refl refl refl refl refl (record { calls = refl; places = refl; objects = refl })) (stands act.Yield h refl refl), refl)
       by (act.EndThread c) h p =
-          (entered s x (moved (act.EndThread c)) d t (act.EndThread c) reply.Done h refl refl (same_beside s x (moved (act.EndThread c)) (done_entry d t (act.EndThread c)) h.tables refl refl refl refl refl) (subst (StandsFor s) (sym (kept_put x (moved (act.EndThread c)) (done_entry d t (act.EndThread c)) refl (omega arith) refl)) (stands (act.EndThread c) h refl refl)), refl)
+          (entered_beside_calls s x (moved (act.EndThread c)) d t (act.EndThread c) reply.Done h refl refl (omega arith) refl (same_beside s x (moved (act.EndThread c)) (done_entry d t (act.EndThread c)) h.tables refl refl refl refl refl (record { calls = refl; places = refl; objects = refl })) (stands (act.EndThread c) h refl refl), refl)
       by _ h p = absurd p
 
   -- a go, a yield or an end-thread

@@ -6,7 +6,8 @@ use Rattle.jx_base.specs.declared.program.System.{System}
 use Rattle.jx_base.specs.Histories.{Past}
 use Rattle.jx_model.specs.Journal.{words_of}
 use Rattle.jx_model.specs.Permits.{acting_thread}
-use Rattle.jx_model.specs.Tables.{Kept}
+use Rattle.jx_model.specs.Calls.{waiting_calls}
+use Rattle.jx_model.specs.Tables.{Kept, call_records}
 use Rattle.nucleus.specs.NucleusStates.{NucleusState, IsNucleusOf}
 use Rattle.nucleus.specs.Stepping.{MayCome}
 use Rattle.nucleus.specs.declared.tables.Tables.{Tables}
@@ -15,7 +16,7 @@ use Rattle.nucleus.specs.declared.tables.Tables.{Tables}
 abbrev pub past_in : Tables → Past
 past_in x = reverse x.journal.entries
 
--- what is kept: there are no calls and memory objects by now
+-- what is kept: of the calls what the past says, and no extents by now
 abbrev pub kept_in : Tables → Kept
 kept_in x =
     record {
@@ -27,10 +28,10 @@ kept_in x =
       threads = x.domains.threads;
       services = x.services.services;
       names = x.services.binds;
-      calls = [];
-      waiting = [];
-      parts = [];
-      objects = [];
+      calls = call_records (past_in x);
+      waiting = waiting_calls (past_in x);
+      parts = x.objects.parts;
+      objects = x.objects.records;
       extents = [];
       taken = x.pool;
     }
@@ -46,6 +47,8 @@ state_of x =
       ended = x.services.ended;
       serving = x.domains.services;
       names = x.services.words;
+      calls = x.calls;
+      places = x.places;
     }
 
 -- the tables are those of a nucleus of the system

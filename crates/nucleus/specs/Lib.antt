@@ -1,3 +1,5 @@
+pub mod CallTables
+pub mod PlaceLists
 pub mod NucleusStates
 pub mod Stepping
 pub mod Inner

@@ -13,7 +13,8 @@ use Rattle.jx_model.specs.Domains.{end_reason, is_birth, is_live, is_made}
 use Rattle.jx_model.specs.Journal.{is_full, words_of}
 use Rattle.jx_model.specs.Legal.{IsNext}
 use Rattle.jx_model.specs.Permits.{is_halt, is_over}
-use Rattle.jx_model.specs.WellMade.{IsSupported, IsWellMade}
+use Rattle.jx_model.specs.WellMade.{IsWellMade}
+use Rattle.supported_acts.specs.SupportedActs.{IsSupported}
 use Rattle.jx_model.specs.WhyNot.{CanBeAsked, why_not}
 use Rattle.table_threads.specs.CallChanges.{entry}
 use Rattle.nucleus.specs.NucleusStates.{NucleusState, IsNucleusOf}

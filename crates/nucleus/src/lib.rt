@@ -3,11 +3,13 @@
 #![tactic(auto)]
 
 mod birth;
+mod choices;
 mod ends;
 mod entering;
 mod nucleus;
 mod opening;
 mod permitting;
+mod places;
 mod portals;
 mod reading;
 mod step;

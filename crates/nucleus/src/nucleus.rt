@@ -5,7 +5,7 @@ ghost use Rattle.jx_base.specs.Histories.{past_of};
 ghost use Rattle.jx_model.specs.Domains.{domains_made};
 ghost use Rattle.jx_model.specs.Journal as Journals;
 ghost use Rattle.jx_model.specs.Permits as Permits;
-ghost use Rattle.jx_model.specs.WellMade.{IsSupported};
+ghost use Rattle.supported_acts.specs.SupportedActs.{IsSupported};
 ghost use Rattle.program_model.specs.Plans.{IsPlanInRange};
 ghost use Rattle.nucleus.specs.NucleusStates.{IsNucleusOf};
 ghost use Rattle.nucleus.specs.Stepping.{IsStepped, MayCome};
@@ -58,8 +58,7 @@ impl Nucleus {
     /// has none, or where it has a running thread.
     pub fn choice(&self, system: &System, domain: DomainId) -> Option<Act>
         requires { IsNucleusOf system.now self.now }
-        ensures first { result ≡ Permits.first_choice self.now.kept.past domain.0 }
-        ensures supported { IfSome result IsSupported }
+        ensures { result ≡ Permits.first_choice self.now.kept.past domain.0 }
     {
         self.tables.choice(system, domain)
     }

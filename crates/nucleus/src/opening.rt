@@ -5,13 +5,19 @@ ghost use Rattle.jx_model.specs.Permits.{boot_templates};
 ghost use Rattle.program_model.specs.Plans.{IsPlanInRange};
 ghost use Rattle.nucleus.specs.Inner.{IsOf, past_in};
 
+use crate::places::Places;
 use crate::tables::Tables;
+use call_table::Calls;
 use domain_table::Domains;
 use extent_pool::Pool;
 use journal::Journal;
 use jx_base::{OutOfMemory, System};
+use memory_objects::Objects;
 use portal_table::Services;
 use std::alloc::Global;
+
+// The words that an entry costs at least.
+const LEAST_WORDS: u32 = 8;
 
 // The templates that are created at the start, in the plan's order.
 fn boots(alloc: Global, system: &System) -> Result<Vec<u32>, OutOfMemory>
@@ -43,6 +49,9 @@ impl Tables {
             domains: Domains::open(alloc, system)?,
             pool: Pool::open(alloc, system.plan.granules)?,
             services: Services::open(alloc, system.plan.journal)?,
+            objects: Objects::open(alloc)?,
+            calls: Calls::open(alloc, system.plan.journal / LEAST_WORDS)?,
+            places: Places::open(alloc, system.plan.journal / LEAST_WORDS)?,
         })
     }
 }

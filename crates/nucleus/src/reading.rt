@@ -4,7 +4,6 @@ ghost use Rattle.std.specs.Option.{option_map};
 ghost use Rattle.jx_model.specs.Domains.{domains_made};
 ghost use Rattle.jx_model.specs.Journal as Journals;
 ghost use Rattle.jx_model.specs.Permits as Permits;
-ghost use Rattle.jx_model.specs.WellMade.{IsSupported};
 ghost use Rattle.nucleus.specs.Inner.{IsOf, past_in};
 
 use crate::tables::Tables;
@@ -31,26 +30,12 @@ impl Tables {
         self.boots.get(self.creates).copied()
     }
 
-    /// The first choice of a domain. There are no calls by now, so that is a go.
-    pub fn choice(&self, system: &System, domain: DomainId) -> Option<Act>
-        requires { IsOf system.now self.now }
-        ensures first { result ≡ Permits.first_choice (past_in self.now) domain.0 }
-        ensures supported { IfSome result IsSupported }
-    {
-        let _ = system;
-        match self.domains.running(domain) {
-            Some(_) => None,
-            None => Some(Act::Go(self.domains.yielded(domain)?)),
-        }
-    }
-
     /// Whether the domain has a running thread or a choice.
     pub fn can_act(&self, system: &System, domain: DomainId) -> bool
         requires { IsOf system.now self.now }
         ensures { result ≡ Permits.can_act (past_in self.now) domain.0 }
     {
-        let _ = system;
-        self.domains.running(domain).is_some() || self.domains.yielded(domain).is_some()
+        self.domains.running(domain).is_some() || self.choice(system, domain).is_some()
     }
 
     /// The least domain that can act.

@@ -1,13 +1,16 @@
 //! The history of a run, and the tables that are kept beside it.
 
+use crate::places::Places;
+use call_table::Calls;
 use domain_table::Domains;
 use extent_pool::Pool;
 use journal::Journal;
+use memory_objects::Objects;
 use portal_table::Services;
 
 /// The entries, whether one of them ended the run, how many creates are among them, the templates
-/// that are created at the start, the domains with their threads, the machine's granules, and the
-/// services with their names.
+/// that are created at the start, the domains with their threads, the machine's granules, the
+/// services with their names, the memory objects, and the calls with the places of their parcels.
 #[derive(Drop)]
 pub struct Tables {
     pub journal: Journal,
@@ -17,4 +20,7 @@ pub struct Tables {
     pub domains: Domains,
     pub pool: Pool,
     pub services: Services,
+    pub objects: Objects,
+    pub calls: Calls,
+    pub places: Places,
 }

@@ -12,7 +12,7 @@ use Rattle.jx_model.specs.Journal.{is_full, words_of}
 use Rattle.jx_model.specs.Legal.{HasEnded, IsLegalPast}
 use Rattle.jx_model.specs.Permits.{acting_thread, is_ending, is_halt, is_over, zero_may, zero_may_now}
 use Rattle.jx_model.specs.SingleWorker.{Pick, PicksEach, pick}
-use Rattle.jx_model.specs.WellMade.{IsSupported}
+use Rattle.supported_acts.specs.SupportedActs.{IsSupported}
 use Rattle.jx_model.specs.WhyNot.{CanBeAsked}
 use Rattle.nucleus.specs.NucleusStates.{IsNucleusOf, NucleusState}
 use Rattle.nucleus.specs.Stepping.{IsEntered, IsStepped}

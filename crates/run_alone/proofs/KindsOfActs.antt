@@ -7,7 +7,8 @@ use Rattle.jx_base.specs.declared.program.System.{System}
 use Rattle.jx_base.specs.Histories.{Past}
 use Rattle.jx_model.specs.Domains.{makes_domain}
 use Rattle.jx_model.specs.Permits.{is_ending, is_zero_act}
-use Rattle.jx_model.specs.WellMade.{IsSupported, IsWellMade, is_supported}
+use Rattle.jx_model.specs.WellMade.{IsWellMade}
+use Rattle.supported_acts.specs.SupportedActs.{IsSupported, is_supported}
 
 -- ---- an act of a domain
 

@@ -1,7 +1,3 @@
-pub mod CodeActs
-pub mod BuiltInActs
-pub mod RowActs
-pub mod StepActs
 pub mod Picking
 pub mod Permitting
 pub mod Actors

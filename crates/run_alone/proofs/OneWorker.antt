@@ -13,8 +13,9 @@ use Rattle.jx_model.specs.Legal.{HasEnded, IsAdmittedPast, IsNext}
 use Rattle.jx_model.specs.Permits.{acting_thread, domain_thread, domains_wait, is_ending, is_over, zero_may_now}
 use Rattle.jx_model.specs.Replies.{reply_to}
 use Rattle.jx_model.specs.SingleWorker.{IsPicked, IsSingleWorkerHistory, PicksEach, pick}
-use Rattle.jx_model.specs.WellMade.{IsSupported, is_supported}
+use Rattle.supported_acts.specs.SupportedActs.{IsSupported, is_supported}
 use Rattle.jx_model.proofs.Growing.{start_admitted}
+use Rattle.jx_model.proofs.OneHistory.{ended_is_over, entry_is_next, goes_on_before}
 use Rattle.machine_laws.proofs.Lists.{all_reverse, all_right}
 use Rattle.supported_acts.specs.SupportedActs.{AreSupported, HasSupportedActs, LacksCode}
 use Rattle.table_threads.proofs.Records.{same_or_not}
@@ -26,13 +27,7 @@ pub record IsWorked (s : System) (past : Past) : Type 0 where
 
 -- what is picked, with its thread and its reply, is one entry
 same_entry : (s : System) (past : Past) (e f : Entry) → IsNext s past e → IsPicked s past e → IsNext s past f → IsPicked s past f → e ≡ f
-same_entry s past e f n p m q =
-    let domain : e.domain.0 ≡ f.domain.0 = p.domain ∙ sym q.domain in
-    let act : e.act ≡ f.act = p.act ∙ sym q.act in
-    let threads : Some e.thread.0 ≡ Some f.thread.0 = sym n.thread ∙ ap2 (acting_thread s past) domain act ∙ m.thread in
-    let thread : e.thread.0 ≡ f.thread.0 = cc in
-    let reply : e.reply ≡ f.reply = n.reply ∙ ap2 (reply_to s past) domain act ∙ sym m.reply in
-    (λ i. record { domain = record { 0 = domain i }; thread = record { 0 = thread i }; act = act i; reply = reply i })
+same_entry s past e f n p m q = entry_is_next s past e n p ∙ sym (entry_is_next s past f m q)
 
 -- two pasts of one length are the same
 same_past : (s : System) (p q : Past) → IsWorked s p → IsWorked s q → length p ≡ length q → p ≡ q
@@ -67,26 +62,6 @@ picked_at s (x ∷ later) past e h = picked_at s later past e h.1
 
 code_at : (later past : Past) (e : Entry) → AreSupported (later ++ e ∷ past) → IsSupported e.act
 code_at later past e h = (all_right (λ (e : Entry). IsSupported e.act) later (e ∷ past) h).0
-
--- an entry comes only while the run isn't over
-goes_before : (s : System) (past : Past) (e : Entry) → IsNext s past e → is_over past ≡ false
-unfolding acting_thread
-goes_before s past e n = by (is_over past) refl n.thread
-  where
-    rest : Option ℕ
-    rest =
-        if e.domain.0 == 0 then (if zero_may_now s past e.act then Some 0 else None)
-        else if domains_wait s past then None else domain_thread past e.domain.0 e.act
-
-    by : (o : Bool) → is_over past ≡ o → (if o then None else rest) ≡ Some e.thread.0 → is_over past ≡ false
-    by true q h = cc
-    by false q h = q
-
--- the run is over where the last entry ends it
-ended_is_over : (past : Past) → HasEnded past → is_over past ≡ true
-unfolding is_over
-ended_is_over [] h = absurd h
-ended_is_over (e ∷ past) h = ap (λ (b : Bool). b || list_any (λ x. is_ending x.act) past) h
 
 -- ---- lacks of code
 
@@ -141,7 +116,7 @@ no_history s t h l w u = elim (compared (length l.past) (length (reverse h.entri
         let g = longer s (reverse h.entries) l.past all (worked s t l) m in
         let n = (start_admitted s g.later (g.entry ∷ reverse h.entries) (subst (IsAdmittedPast s) g.is l.legal.admitted)).0 in
         let over : is_over (reverse h.entries) ≡ true = ended_is_over (reverse h.entries) w.complete.ended in
-        let going : is_over (reverse h.entries) ≡ false = goes_before s (reverse h.entries) g.entry n in cc
+        let going : is_over (reverse h.entries) ≡ false = goes_on_before s (reverse h.entries) g.entry n in cc
   ]
 ]
   where

@@ -1,5 +1,5 @@
 -- What one worker picks is permitted.
-use Rattle.std.proofs.Common.{◌≡◌, refl, sym, ◌∙◌, ap, subst, ℕ, ◌<◌, ◌≤◌, ◌^◌, Bool, true, false, ◌&&◌, ◌||◌, List, [], ◌∷◌, ◌++◌, length, Option, Some, None, is_some, is_none, arith, if◌then◌else◌, ◌⊎◌, inl, inr}
+use Rattle.std.proofs.Common.{◌≡◌, refl, sym, ◌∙◌, ap, subst, ℕ, ◌+◌, ◌<◌, ◌≤◌, ◌^◌, filter, slice_get, Bool, true, false, ◌&&◌, ◌||◌, List, [], ◌∷◌, ◌++◌, length, Option, Some, None, is_some, is_none, arith, if◌then◌else◌, ◌⊎◌, inl, inr}
 use Rattle.std.specs.Prelude.{IsSome}
 use Rattle.std.specs.Option.{option_and_then, option_map, option_or}
 use Rattle.jx_base.specs.declared.act.Act.{Act}
@@ -20,21 +20,27 @@ use Rattle.machine_model.specs.Running.{Ask, Step, StepOutcome, state_at_act, st
 use Rattle.machine_model.specs.State.{State}
 use Rattle.machine_laws.proofs.Standing.{standing}
 use Rattle.jx_base.specs.declared.act.Reason.TheVariants as reason
-use Rattle.jx_model.specs.Calls.{is_resumable, queue_head}
+use Rattle.jx_model.specs.Calls.{Answer, Asked, answer_of, asked_by, calls_made, is_call, is_queued, is_resumable, queue_head, queued_as, queued_calls, service_of_call, waiting_calls}
+use Rattle.std.specs.List.{range_with_len}
+use Rattle.jx_base.specs.Basics.{up_to}
+use Rattle.jx_base.specs.Histories.{count_where}
+use Rattle.jx_base.proofs.NthEntries.{count_same}
+use Rattle.table_threads.proofs.CallActs.{answered_made}
+use Rattle.table_threads.proofs.CallStages.{resumable_parts}
 use Rattle.jx_model.specs.Domains.{is_live, template_of}
 use Rattle.jx_model.specs.Journal.{is_full}
 use Rattle.jx_model.specs.Legal.{FollowsCode, IsAdmittedPast, IsFrom}
 use Rattle.jx_model.specs.Permits.{acting_thread, can_act, choice_thread, domain_thread, domains_wait, first_choice, first_of_choices, go_at, going_thread, idle_thread, is_choice, is_halt, is_over, is_yielded, is_zero_act, may_perform, next_boot, resume_at, resume_in, take_at, zero_may, zero_may_now}
 use Rattle.jx_model.specs.SingleWorker.{act_of_turn, code_act, performed}
 use Rattle.jx_model.specs.Threads.{new_threads, new_threads_of, running_thread, service_threads, thread_state, threads_of}
-use Rattle.jx_model.specs.WellMade.{IsSupported, is_supported}
+use Rattle.supported_acts.specs.SupportedActs.{IsSupported, is_supported}
 use Rattle.jx_model.proofs.Acting.{chosen, running_within, state_within}
 use Rattle.supported_acts.specs.SupportedActs.{AreSupported}
 use Rattle.table_threads.proofs.Records.{is_that, not_that}
 use Rattle.thread_laws.proofs.Agreement.{agreement_stands}
-use Rattle.run_alone.proofs.CodeActs.{IsCodeAct, not_zeros}
+use Rattle.machine_laws.proofs.CodeActs.{IsCodeAct, not_zeros}
 use Rattle.run_alone.proofs.Picking.{acts_live, choice_live, none_acts}
-use Rattle.run_alone.proofs.StepActs.{DoesOfCode, next_of}
+use Rattle.machine_laws.proofs.StepActs.{DoesOfCode, next_of}
 use Rattle.run_alone.specs.Workers.{HasRoom, IsTurnOf}
 
 -- ---- Domain Zero
@@ -96,42 +102,56 @@ pub record IsGoOf (past : Past) (d : ℕ) (a : Act) : Type 0 where
   pub is : a ≡ act.Go thread
   pub going : going_thread past d thread.0 ≡ Some thread.0
 
--- an act with code is no resume and no take
-resume_lacks : {A : Type 0} (c : CallId) (a : Act) → IsSupported a → act.Resume c ≡ a → A
-unfolding is_supported
-resume_lacks c (act.Resume k) u q = cc
-resume_lacks c _ u q = cc
+-- acts with code make no calls
+no_call : (a : Act) → IsSupported a → asked_by a ≡ None
+unfolding is_supported asked_by
+no_call (act.Call s m p) u = cc
+no_call _ u = refl
 
-take_lacks : {A : Type 0} (c : CallId) (a : Act) → IsSupported a → act.Take c ≡ a → A
-unfolding is_supported
-take_lacks c (act.Take k) u q = cc
-take_lacks c _ u q = cc
+no_calls : (past : Past) → AreSupported past → calls_made past ≡ 0
+unfolding is_call count_where
+no_calls [] u = refl
+no_calls (e ∷ past) u = count_same is_call e past (ap (λ (o : Option Asked). is_some o && is_some (queued_as e.reply)) (no_call e.act u.0)) ∙ no_calls past u.1
 
-no_resume : {A : Type 0} (past : Past) (d t : ℕ) (a : Act) → IsSupported a → resume_at past d t ≡ Some a → A
+-- so nobody goes on after one
+no_answer : {A : Type 0} (past : Past) (c : ℕ) → AreSupported past → is_resumable past c ≡ true → A
+no_answer {A} past c u h = by (answer_of past c) refl (resumable_parts past c h).0
+  where
+    by : (o : Option Answer) → answer_of past c ≡ o → is_some o ≡ true → A
+    by None q h = cc
+    by (Some x) q h = let m = answered_made past c x q in absurd (omega (arith, m.0, m.1, no_calls past u))
+
+no_resume : {A : Type 0} (past : Past) (d t : ℕ) (a : Act) → AreSupported past → resume_at past d t ≡ Some a → A
 unfolding resume_at resume_in
 no_resume {A} past d t a u h = state (thread_state past d t) h
   where
-    acts : (c : CallId) (b : Bool) → (if b then Some (act.Resume c) else None) ≡ Some a → A
-    acts c true h = resume_lacks c a u (let q : act.Resume c ≡ a = cc in q)
-    acts c false h = cc
+    acts : (c : CallId) (b : Bool) → is_resumable past c.0 ≡ b → (if b then Some (act.Resume c) else None) ≡ Some a → A
+    acts c true q h = no_answer past c.0 u q
+    acts c false q h = cc
 
     state : (o : Option ThreadState) → option_and_then (resume_in past) o ≡ Some a → A
     state None h = cc
-    state (Some (thread.Waiting c)) h = acts c (is_resumable past c.0) h
+    state (Some (thread.Waiting c)) h = acts c (is_resumable past c.0) refl h
     state (Some thread.Running) h = cc
     state (Some (thread.Serving c)) h = cc
     state (Some (thread.Idle k)) h = cc
     state (Some thread.Yielded) h = cc
     state (Some thread.Over) h = cc
 
-no_take : {A : Type 0} (past : Past) (d t : ℕ) (a : Act) → IsSupported a → take_at past d t ≡ Some a → A
+-- and no queue has a call
+no_head : (past : Past) (k : ℕ) → AreSupported past → queue_head past k ≡ None
+unfolding queue_head queued_calls waiting_calls up_to
+no_head past k u =
+    ap (λ (n : ℕ). slice_get (filter (λ c. is_number (service_of_call past c) k) (filter (is_queued past) (range_with_len 1 n))) 0) (no_calls past u)
+
+no_take : {A : Type 0} (past : Past) (d t : ℕ) (a : Act) → AreSupported past → take_at past d t ≡ Some a → A
 unfolding take_at
-no_take {A} past d t a u h = by (is_some (idle_thread past d t)) (queue_head past t) h
+no_take {A} past d t a u h = by (is_some (idle_thread past d t)) (queue_head past t) (no_head past t u) h
   where
-    by : (b : Bool) (o : Option ℕ) → (if b then option_map (λ c. act.Take (record { 0 = c })) o else None) ≡ Some a → A
-    by true (Some c) h = take_lacks (record { 0 = c }) a u (let q : act.Take (record { 0 = c }) ≡ a = cc in q)
-    by true None h = cc
-    by false o h = cc
+    by : (b : Bool) (o : Option ℕ) → o ≡ None → (if b then option_map (λ c. act.Take (record { 0 = c })) o else None) ≡ Some a → A
+    by true (Some c) q h = cc
+    by true None q h = cc
+    by false o q h = cc
 
 going_same : (past : Past) (d t k : ℕ) → going_thread past d t ≡ Some k → k ≡ t
 unfolding going_thread
@@ -147,8 +167,8 @@ go_there past d t a h = by (going_thread past d t) refl h
         let w : act.Go (record { 0 = k }) ≡ a = cc in
         record { thread = record { 0 = k }; is = sym w; going = ap (going_thread past d) (going_same past d t k q) ∙ q }
 
--- a first choice that has code is a go
-pub choice_goes : (past : Past) (d : ℕ) (a : Act) → first_choice past d ≡ Some a → IsSupported a → IsGoOf past d a
+-- where all acts have code, a first choice is a go
+pub choice_goes : (past : Past) (d : ℕ) (a : Act) → first_choice past d ≡ Some a → AreSupported past → IsGoOf past d a
 unfolding first_of_choices
 choice_goes past d a h u = resumes (first_some (resume_at past d) (threads_of past d)) refl (choice_live past d a h).2
   where
@@ -285,11 +305,11 @@ go_well_made past d t u h =
     let y = passed is_yielded (thread_state past d t.0) (chosen (passes is_yielded (thread_state past d t.0)) t.0 (Some t.0) h).0 in
     omega (arith, state_within past d t.0 y.0 y.1, ap length (one_thread past d u))
 
-module _ (s : System) (past : Past) (d t : ℕ) (a : Act) (z : HasCode s past d t) (able : can_act past d ≡ true) (act : act_of_turn s past d ≡ Some a) (supported : IsSupported a) where
+module _ (s : System) (past : Past) (d t : ℕ) (a : Act) (z : HasCode s past d t) (able : can_act past d ≡ true) (act : act_of_turn s past d ≡ Some a) (supported : IsSupported a) (code : AreSupported past) where
   -- the act of a turn is the code's, and a thread runs, or a go while none runs
   cases : ((k : ℕ) × (running_thread past d ≡ Some k) × (next_act s t (own_entries past d) ≡ Does a)) ⊎ ((running_thread past d ≡ None) × (next_act s t (own_entries past d) ≡ Idle) × IsGoOf past d a)
   cases = elim (runs_or_not (running_thread past d)) [
-    | inl q ↦ let w = idles s past d t z (acts_live past d able) q in inr (q, w, choice_goes past d a (sym (turn_idles s past d t z.template w) ∙ act) supported)
+    | inl q ↦ let w = idles s past d t z (acts_live past d able) q in inr (q, w, choice_goes past d a (sym (turn_idles s past d t z.template w) ∙ act) code)
     | inr x ↦
         let y = works s past d t z (acts_live past d able) x.0 x.1 in
         let e : y.0 ≡ a = cc (turn_does s past d t z.template y.0 y.1) in inl (x.0, x.1, y.1 ∙ ap Does e)
@@ -304,12 +324,12 @@ module _ (s : System) (past : Past) (d t : ℕ) (a : Act) (z : HasCode s past d 
   ]
 
   -- it is permitted
-  pub turn_permitted : AreSupported past → is_over past ≡ false → HasRoom s past → (r : ℕ) × (acting_thread s past d a ≡ Some r)
-  turn_permitted u o f = elim cases [
+  pub turn_permitted : is_over past ≡ false → HasRoom s past → (r : ℕ) × (acting_thread s past d a ≡ Some r)
+  turn_permitted o f = elim cases [
     | inl x ↦ (
       x.0,
       domain_acts s past d x.0 a o z.made f (running_acts past d x.0 a x.1
-          (performs past d x.0 a supported (subst DoesOfCode x.2 (next_of s t (own_entries past d))) (runs_first past d x.0 u x.1))),
+          (performs past d x.0 a supported (subst DoesOfCode x.2 (next_of s t (own_entries past d))) (runs_first past d x.0 code x.1))),
     )
     | inr x ↦ (
       x.2.thread.0,
@@ -319,9 +339,9 @@ module _ (s : System) (past : Past) (d t : ℕ) (a : Act) (z : HasCode s past d 
   ]
 
 -- an act of a turn is none of Domain Zero's
-pub turn_not_zeros : (s : System) (past : Past) (d t : ℕ) (a : Act) → HasCode s past d t → can_act past d ≡ true → act_of_turn s past d ≡ Some a → IsSupported a → is_zero_act a ≡ false
+pub turn_not_zeros : (s : System) (past : Past) (d t : ℕ) (a : Act) → HasCode s past d t → can_act past d ≡ true → act_of_turn s past d ≡ Some a → IsSupported a → AreSupported past → is_zero_act a ≡ false
 unfolding is_zero_act
-turn_not_zeros s past d t a z able act u = elim (cases s past d t a z able act u) [
+turn_not_zeros s past d t a z able act u code = elim (cases s past d t a z able act u code) [
   | inl x ↦ not_zeros a (subst DoesOfCode x.2 (next_of s t (own_entries past d)))
   | inr x ↦ subst (λ (b : Act). is_zero_act b ≡ false) (sym x.2.is) refl
 ]

@@ -11,7 +11,8 @@ use Rattle.jx_model.specs.Domains.{is_birth, template_of}
 use Rattle.jx_model.specs.Legal.{IsFrom, IsNext}
 use Rattle.jx_model.specs.Permits.{acting_thread, can_act, first_choice, is_ending, is_over, is_zero_act}
 use Rattle.jx_model.specs.SingleWorker.{Pick, PicksEach, pick}
-use Rattle.jx_model.specs.WellMade.{IsSupported, IsWellMade, is_supported}
+use Rattle.jx_model.specs.WellMade.{IsWellMade}
+use Rattle.supported_acts.specs.SupportedActs.{IsSupported, is_supported}
 use Rattle.jx_model.specs.WhyNot.{CanBeAsked}
 use Rattle.machine_model.specs.Machine.{next_act}
 use Rattle.domain_machine.specs.Fates.{IsSettled}
@@ -106,11 +107,11 @@ module _ (s : System) (w : Worker) (h : IsGoing s w) (d : ℕ) (able : can_act (
       record { going = z.going; same = z.same; act = turn_does s (past_in w) d x.0.template x.2.template a i.does; well_made = i.well_made (past_in w) d life_of }
 
   -- or its first choice
-  pub finds_choice : (v : Worker) (a : Act) → SaysNext s w v d next.Idle → Some a ≡ first_choice (past_in v) d → IsSupported a → FindsAct s w v d a
-  finds_choice v a z c u =
+  pub finds_choice : (v : Worker) (a : Act) → SaysNext s w v d next.Idle → Some a ≡ first_choice (past_in v) d → FindsAct s w v d a
+  finds_choice v a z c =
       let x = actor_there s (past_in w) w.actors.items h.worker.actors d made.low made.high in
       let q : first_choice (past_in w) d ≡ Some a = ap (λ (n : NucleusState). first_choice n.kept.past d) (sym z.same) ∙ sym c in
-      let g = choice_goes (past_in w) d a q u in
+      let g = choice_goes (past_in w) d a q h.worker.supported in
       record {
         going = z.going;
         same = z.same;
@@ -159,7 +160,7 @@ module _ (s : System) (w : Worker) (h : IsGoing s w) (d : ℕ) (a : Act) (t : Is
   the_code = code_of s w h d able the_actor.0 the_actor.2
 
   pub not_zeros : is_zero_act a ≡ false
-  not_zeros = turn_not_zeros s (past_in w) d the_actor.0.template a the_code able t.act u
+  not_zeros = turn_not_zeros s (past_in w) d the_actor.0.template a the_code able t.act u h.worker.supported
 
   pub may_come : MayCome s (past_in w) d a
   may_come = record { domain = inr (is_made_at (past_in w) d (acts_made (past_in w) d able)); well_made = t.well_made; has_entry = supported_has_entry a u }
@@ -176,7 +177,7 @@ module _ (s : System) (w : Worker) (h : IsGoing s w) (d : ℕ) (a : Act) (t : Is
 
   module _ (e : Entry) (of : e.domain.0 ≡ d) (is : e.act ≡ a) (y : Actor) (m : IsActorOf s (past_in w) d y) where
     from : IsFrom (next_act s y.template (own_entries (past_in w) d)) e.act
-    from = subst (IsFrom (next_act s y.template (own_entries (past_in w) d))) (sym is) (turn_from s (past_in w) d y.template a (code_of s w h d able y m) able t.act u)
+    from = subst (IsFrom (next_act s y.template (own_entries (past_in w) d))) (sym is) (turn_from s (past_in w) d y.template a (code_of s w h d able y m) able t.act u h.worker.supported)
 
     life : IsNext s (past_in w) e → IsLife s (e ∷ own_entries (past_in w) d) (e ∷ past_in w) d
     life n = record { admitted = (n, h.worker.nucleus.stands.admitted); made = from_one s w h d able; own_are = own_more e (past_in w) d (own e of) }

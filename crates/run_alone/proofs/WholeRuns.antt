@@ -8,7 +8,7 @@ use Rattle.jx_base.specs.declared.program.System.{System}
 use Rattle.jx_base.specs.Histories.{past_of}
 use Rattle.jx_model.specs.Legal.{HasEnded, IsLegalPast}
 use Rattle.jx_model.specs.SingleWorker.{IsSingleWorkerHistory, PicksEach}
-use Rattle.jx_model.specs.WellMade.{IsSupported}
+use Rattle.supported_acts.specs.SupportedActs.{IsSupported}
 use Rattle.machine_laws.proofs.Lists.{all_reverse}
 use Rattle.supported_acts.specs.SupportedActs.{AreSupported, HasSupportedActs}
 use Rattle.run_alone.proofs.Entered.{is_legal}

@@ -1,7 +1,7 @@
 //! The turn of a domain.
 ghost use Rattle.std.specs.Prelude.{◌≡◌, IfErr, IfOk, Some, true};
 ghost use Rattle.jx_model.specs.Permits.{can_act};
-ghost use Rattle.jx_model.specs.WellMade.{IsSupported};
+ghost use Rattle.supported_acts.specs.SupportedActs.{IsSupported};
 ghost use Rattle.run_alone.specs.RunsAlone.{IsStop};
 ghost use Rattle.run_alone.specs.Workers.{FindsAct, HasGoneOn, IsGoing, IsTurn, IsTurnOf};
 ghost use Rattle.run_alone.specs.Workers.{SaysNext, past_in};

@@ -1,29 +1,37 @@
-use Rattle.std.proofs.Common.{◌≡◌, ◌∙◌, ap, sym, refl, None}
+use Rattle.std.proofs.Common.{◌≡◌, ◌∙◌, sym, ap, Option, ℕ, None, is_none, Bool, ◌&&◌, if◌then◌else◌}
 use Rattle.std.specs.Option.{option_map}
-use Rattle.jx_base.specs.declared.act.Act.TheVariants as act
 use Rattle.jx_base.specs.declared.ids.ThreadId.{ThreadId}
-use Rattle.domain_table.specs.DomainLists as Lists
-use Rattle.jx_model.specs.WellMade.{is_supported}
-use Rattle.nucleus.proofs.DomainReads.{choice_is, no_choice}
+use Rattle.jx_base.proofs.BasicLaws.{ap2}
+use Rattle.jx_model.specs.Permits.{first_choice, first_of_choices}
+use Rattle.nucleus.specs.Inner.{past_in}
+use Rattle.nucleus.proofs.CallReads.{lives_is}
+use Rattle.nucleus.proofs.DomainReads.{no_choice, running_is}
 use Rattle.nucleus.proofs.tables.Tables.choice.Goals as goal
 
-pub returns-in_err-yielded-in-None-clause-first : goal.returns-in_err-yielded-in-None-clause-first
-returns-in_err-yielded-in-None-clause-first c =
-    let asleep : Lists.running_in c.args.self.now.domains c.args.domain.0 ≡ None = sym c.running.ensures ∙ ap (option_map (λ (t : ThreadId). t.0)) c.in-None.is in
-    c.from_residual.ensures
-    ∙ sym (choice_is c.args.system.now c.args.self.now c.requires c.args.domain.0 asleep
-    ∙ ap (option_map (λ t. act.Go (record { 0 = t }))) (sym c.in_err-yielded-in-None.ensures))
+pub first_of_choices-requires-clause-live : goal.first_of_choices-requires-clause-live
+first_of_choices-requires-clause-live c =
+    sym (lives_is c.args.system.now c.args.self.now c.requires c.args.domain.0) ∙ sym c.lives.ensures ∙ c.if-lives.true
 
-pub returns-in-Some-clause-first : goal.returns-in-Some-clause-first
-returns-in-Some-clause-first c =
-    sym (no_choice c.args.system.now c.args.self.now c.requires c.args.domain.0 c.in-Some.field-0.0 (sym c.running.ensures ∙ ap (option_map (λ (t : ThreadId). t.0)) c.in-Some.is))
+pub returns-in-Some : goal.returns-in-Some
+returns-in-Some c =
+    sym (no_choice c.args.system.now c.args.self.now c.requires c.args.domain.0 c.in-Some.field-0.0
+    (sym c.running.ensures ∙ ap (option_map (λ (t : ThreadId). t.0)) c.in-Some.is))
 
-pub returns-in_ok-yielded-in-None-clause-first : goal.returns-in_ok-yielded-in-None-clause-first
-returns-in_ok-yielded-in-None-clause-first c =
-    let asleep : Lists.running_in c.args.self.now.domains c.args.domain.0 ≡ None = sym c.running.ensures ∙ ap (option_map (λ (t : ThreadId). t.0)) c.in-None.is in
-    sym (choice_is c.args.system.now c.args.self.now c.requires c.args.domain.0 asleep
-    ∙ ap (option_map (λ t. act.Go (record { 0 = t }))) (sym c.in_ok-yielded-in-None.ensures))
+pub returns-then-lives : goal.returns-then-lives
+unfolding first_choice
+returns-then-lives c =
+    let past = past_in c.args.self.now in
+    let d = c.args.domain.0 in
+    c.first_of_choices.ensures
+    ∙ ap2 (λ (b : Bool) (o : Option ℕ). if b && is_none o then first_of_choices past d else None)
+    (sym c.if-lives.true ∙ c.lives.ensures ∙ lives_is c.args.system.now c.args.self.now c.requires d)
+    (ap (option_map (λ (t : ThreadId). t.0)) (sym c.in-None.is) ∙ c.running.ensures ∙ running_is c.args.system.now c.args.self.now c.requires d)
 
-pub returns-in_ok-yielded-in-None-clause-supported : goal.returns-in_ok-yielded-in-None-clause-supported
-unfolding is_supported
-returns-in_ok-yielded-in-None-clause-supported c = refl
+pub returns-else-lives : goal.returns-else-lives
+unfolding first_choice
+returns-else-lives c =
+    let past = past_in c.args.self.now in
+    let d = c.args.domain.0 in
+    ap2 (λ (b : Bool) (o : Option ℕ). if b && is_none o then first_of_choices past d else None)
+    (sym c.if-lives.false ∙ c.lives.ensures ∙ lives_is c.args.system.now c.args.self.now c.requires d)
+    (ap (option_map (λ (t : ThreadId). t.0)) (sym c.in-None.is) ∙ c.running.ensures ∙ running_is c.args.system.now c.args.self.now c.requires d)

@@ -1,18 +1,18 @@
-use Rattle.std.proofs.Common.{◌∙◌, sym}
-use Rattle.nucleus.proofs.DomainReads.{live_numbered}
-use Rattle.nucleus.proofs.EndedTables.{given_taken, live_record, there}
+use Rattle.std.proofs.Common.{◌≡◌, ◌≤◌, ◌∙◌, ap, subst, sym, length, map, arith}
+use Rattle.nucleus.specs.Ends.{lost_call, with_calls, with_tables_ended}
+use Rattle.nucleus.specs.declared.tables.Tables.{Tables}
+use Rattle.nucleus.proofs.OwnedServices.{few_services, lost_after}
 use Rattle.nucleus.proofs.tables.Tables.end_domain.Goals as goal
 
-pub unwrap-ended-requires : goal.unwrap-ended-requires
-unwrap-ended-requires c = there c.args.system.now c.args.self.now c.requires.tables c.args.domain.0 c.requires.live c.state.result c.state.ensures
+pub end_calls-requires : goal.end_calls-requires
+end_calls-requires c =
+    subst (λ (t : Tables). length t.services.services ≤ 256) (sym c.end_tables.ensures)
+    (few_services c.args.system.now c.args.self.now c.args.domain.0 c.requires.tables)
 
-pub end-requires : goal.end-requires
-end-requires c = live_record c.args.system.now c.args.self.now c.requires.tables c.args.domain.0 c.requires.live
-
-pub give-requires : goal.give-requires
-give-requires c =
-    given_taken c.args.system.now c.args.self.now c.requires.tables c.args.domain.0 c.requires.live c.unwrap-ended.result c.heap_granules.result
-    (sym c.state.ensures ∙ c.unwrap-ended.ensures) c.heap_granules.ensures.granules
-
-pub end_domain-requires : goal.end_domain-requires
-end_domain-requires c = live_numbered c.args.system.now c.args.self.now c.args.domain.0 c.requires.tables c.requires.live
+pub returns : goal.returns
+returns c =
+    let x : Tables = c.args.self.now in
+    let d = c.args.domain.0 in
+    c.end_calls.ensures
+    ∙ ap (λ (t : Tables). with_calls t (map (lost_call t.services.services d) t.calls.calls)) c.end_tables.ensures
+    ∙ ap (with_calls (with_tables_ended c.args.system.now x d c.args.reason)) (lost_after x.services.services d x.calls.calls)

@@ -1,5 +1,5 @@
 use Rattle.std.proofs.Common.{◌∙◌, ℕ, List, slice_get}
-use Rattle.domain_table.proofs.Rooms.{copied_there}
+use Rattle.table_threads.proofs.Numbered.{copied_there}
 use Rattle.jx_base.proofs.BasicLaws.{ap2}
 use Rattle.jx_model.specs.Permits.{next_boot}
 use Rattle.nucleus.proofs.tables.Tables.next_boot.Goals as goal

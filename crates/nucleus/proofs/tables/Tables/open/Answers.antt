@@ -13,5 +13,8 @@ returns-clause-tables c =
       domains = c.in_ok-open-2.field-0;
       pool = c.in_ok-open-3.field-0;
       services = c.in_ok-open-4.field-0;
+      objects = c.in_ok-open-5.field-0;
+      calls = c.in_ok-open-6.field-0;
+      places = c.in_ok-open-7.field-0;
     } in
-    open_is_of c.args.system.now x refl refl c.in_ok-open.ensures c.in_ok-open-2.ensures c.in_ok-open-3.ensures c.in_ok-open-4.ensures c.requires c.in_ok-boots.ensures
+    open_is_of c.args.system.now x refl refl c.in_ok-open.ensures c.in_ok-open-2.ensures c.in_ok-open-3.ensures c.in_ok-open-4.ensures c.in_ok-open-5.ensures c.in_ok-open-6.ensures c.in_ok-open-7.ensures c.requires c.in_ok-boots.ensures

@@ -8,7 +8,7 @@ use Rattle.run_alone.proofs.worker.Worker.act_of_turn.Goals as goal
 pub unreachable-requires : goal.unreachable-requires
 unreachable-requires c =
     let s = c.args.system.now in let w = c.args.self.now in let d = c.args.domain.0 in let v = c.next_of.new.self in
-    chooses s w c.requires.worker d c.requires.live v (subst (SaysNext s w v d) c.in-Idle.is c.in_ok-act.ensures) c.in-None.ensures.first
+    chooses s w c.requires.worker d c.requires.live v (subst (SaysNext s w v d) c.in-Idle.is c.in_ok-act.ensures) c.in-None.ensures
 
 pub returns-in-Act : goal.returns-in-Act
 returns-in-Act c =
@@ -23,4 +23,4 @@ returns-in-End c =
 pub returns-in-Some : goal.returns-in-Some
 returns-in-Some c =
     let s = c.args.system.now in let w = c.args.self.now in let d = c.args.domain.0 in let v = c.next_of.new.self in
-    finds_choice s w c.requires.worker d c.requires.live v c.in-Some.act (subst (SaysNext s w v d) c.in-Idle.is c.in_ok-act.ensures) c.in-Some.ensures.first c.in-Some.ensures.supported
+    finds_choice s w c.requires.worker d c.requires.live v c.in-Some.act (subst (SaysNext s w v d) c.in-Idle.is c.in_ok-act.ensures) c.in-Some.ensures

@@ -2,7 +2,7 @@ use Rattle.std.proofs.Common.{◌≡◌, refl, sym, subst, ap, inl, ◌∷◌, [
 use Rattle.jx_base.specs.declared.act.Act.TheVariants as act
 use Rattle.domain_machine.specs.Machines.{StandsFor}
 use Rattle.jx_model.specs.Permits.{is_ending}
-use Rattle.jx_model.specs.WellMade.{is_supported}
+use Rattle.supported_acts.specs.SupportedActs.{is_supported}
 use Rattle.table_threads.specs.CallChanges.{entry}
 use Rattle.run_alone.proofs.Actors.{added, kept}
 use Rattle.run_alone.proofs.Booting.{boot_there}
