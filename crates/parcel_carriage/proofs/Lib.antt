@@ -1,0 +1,4 @@
+pub mod Picked
+pub mod Standing
+pub mod ObjectSteps
+pub mod PortalSteps

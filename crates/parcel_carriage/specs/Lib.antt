@@ -1,0 +1,3 @@
+pub mod Carriage
+pub mod Changes
+pub mod Words
