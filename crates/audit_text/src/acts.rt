@@ -1,15 +1,15 @@
 //! The words of acts.
 ghost use Rattle.std.specs.Prelude.{[], ◌∷◌, codes, decimal};
-ghost use Rattle.std.specs.Fmt.{signed_decimal};
 ghost use Rattle.audit_text.specs.Rendering.{behind, spaced_act};
 ghost use Rattle.jx_base.specs.Texts.{quoted};
 ghost use Rattle.page_text.specs.Writes.{Writes};
 
+use crate::memory_acts::{write_copy, write_fill, write_get, write_set, write_split, write_sub};
 use crate::names::{class_name, template_name};
 use crate::words::{
     write_alone, write_answer, write_asked, write_number, write_signed, write_text,
 };
-use jx_base::{Act, ClassId, Failed, ObjectId, Reason, ServiceId, Sink, System};
+use jx_base::{Act, ClassId, Failed, Reason, ServiceId, Sink, System};
 use page_text::{Page, Piece, write_behind};
 
 #[tactic(auto, unfolding(crate::specs::Rendering::spaced_act, page_text::specs::Pieces::piece_text, audit_model::specs::Audit::act_word, audit_model::specs::Audit::act_operands))]
@@ -50,153 +50,6 @@ fn write_bind<K: Sink>(
             Piece::Plain("bind"),
             Piece::Quoted(name),
             Piece::Number(u64::from(service.0)),
-        ],
-        page,
-        sink,
-    )
-}
-
-#[tactic(auto, unfolding(page_text::specs::Pieces::piece_text))]
-fn write_get<K: Sink>(
-    object: ObjectId,
-    at: &i32,
-    width: u8,
-    page: &mut Page,
-    sink: &mut K,
-) -> Result<(), Failed>
-    ensures { Writes (behind (codes "get" ∷ decimal object.0 ∷ signed_decimal at.now ∷ decimal width ∷ []))
-        (page.old, K.state sink.old) (page.new, K.state sink.new) result }
-{
-    write_behind(
-        &[
-            Piece::Plain("get"),
-            Piece::Number(u64::from(object.0)),
-            Piece::Signed(*at),
-            Piece::Number(u64::from(width)),
-        ],
-        page,
-        sink,
-    )
-}
-
-#[tactic(auto, unfolding(page_text::specs::Pieces::piece_text))]
-fn write_set<K: Sink>(
-    object: ObjectId,
-    at: &i32,
-    width: u8,
-    value: &i32,
-    page: &mut Page,
-    sink: &mut K,
-) -> Result<(), Failed>
-    ensures { Writes (behind (codes "set" ∷ decimal object.0 ∷ signed_decimal at.now
-        ∷ decimal width ∷ signed_decimal value.now ∷ []))
-        (page.old, K.state sink.old) (page.new, K.state sink.new) result }
-{
-    write_behind(
-        &[
-            Piece::Plain("set"),
-            Piece::Number(u64::from(object.0)),
-            Piece::Signed(*at),
-            Piece::Number(u64::from(width)),
-            Piece::Signed(*value),
-        ],
-        page,
-        sink,
-    )
-}
-
-#[tactic(auto, unfolding(page_text::specs::Pieces::piece_text))]
-fn write_fill<K: Sink>(
-    object: ObjectId,
-    at: &i32,
-    count: &i32,
-    byte: u8,
-    page: &mut Page,
-    sink: &mut K,
-) -> Result<(), Failed>
-    ensures { Writes (behind (codes "fill" ∷ decimal object.0 ∷ signed_decimal at.now
-        ∷ signed_decimal count.now ∷ decimal byte ∷ []))
-        (page.old, K.state sink.old) (page.new, K.state sink.new) result }
-{
-    write_behind(
-        &[
-            Piece::Plain("fill"),
-            Piece::Number(u64::from(object.0)),
-            Piece::Signed(*at),
-            Piece::Signed(*count),
-            Piece::Number(u64::from(byte)),
-        ],
-        page,
-        sink,
-    )
-}
-
-#[tactic(auto, unfolding(page_text::specs::Pieces::piece_text))]
-fn write_copy<K: Sink>(
-    source: ObjectId,
-    at: &i32,
-    target: ObjectId,
-    target_at: &i32,
-    count: &i32,
-    page: &mut Page,
-    sink: &mut K,
-) -> Result<(), Failed>
-    ensures { Writes (behind (codes "copy" ∷ decimal source.0 ∷ signed_decimal at.now
-        ∷ decimal target.0 ∷ signed_decimal target_at.now ∷ signed_decimal count.now ∷ []))
-        (page.old, K.state sink.old) (page.new, K.state sink.new) result }
-{
-    write_behind(
-        &[
-            Piece::Plain("copy"),
-            Piece::Number(u64::from(source.0)),
-            Piece::Signed(*at),
-            Piece::Number(u64::from(target.0)),
-            Piece::Signed(*target_at),
-            Piece::Signed(*count),
-        ],
-        page,
-        sink,
-    )
-}
-
-#[tactic(auto, unfolding(page_text::specs::Pieces::piece_text))]
-fn write_sub<K: Sink>(
-    object: ObjectId,
-    at: &i32,
-    count: &i32,
-    page: &mut Page,
-    sink: &mut K,
-) -> Result<(), Failed>
-    ensures { Writes (behind (codes "sub" ∷ decimal object.0 ∷ signed_decimal at.now ∷ signed_decimal count.now ∷ []))
-        (page.old, K.state sink.old) (page.new, K.state sink.new) result }
-{
-    write_behind(
-        &[
-            Piece::Plain("sub"),
-            Piece::Number(u64::from(object.0)),
-            Piece::Signed(*at),
-            Piece::Signed(*count),
-        ],
-        page,
-        sink,
-    )
-}
-
-#[tactic(auto, unfolding(page_text::specs::Pieces::piece_text))]
-fn write_split<K: Sink>(
-    object: ObjectId,
-    at: &i32,
-    page: &mut Page,
-    sink: &mut K,
-) -> Result<(), Failed>
-    ensures { Writes (behind (codes "split" ∷ decimal object.0 ∷ signed_decimal at.now ∷ []))
-        (page.old, K.state sink.old) (page.new, K.state sink.new) result }
-{
-    write_behind(
-        &[
-            Piece::Plain("split"),
-            Piece::Number(u64::from(object.0)),
-            Piece::Signed(*at),
         ],
         page,
         sink,
@@ -277,38 +130,38 @@ pub fn write_act<K: Sink>(
         Act::Throw { call, parcel } => write_answer(system, "throw", *call, parcel, page, sink),
         Act::Resume(call) => write_number("resume", call.0, page, sink),
         Act::Spawn { name } => write_text("spawn", name.as_slice(), page, sink),
-        Act::Kill(domain) => write_signed("kill", domain, page, sink),
-        Act::Exit(code) => write_signed("exit", code, page, sink),
+        Act::Kill(domain) => write_signed("kill", *domain, page, sink),
+        Act::Exit(code) => write_signed("exit", *code, page, sink),
         Act::EndThread(exception) => write_end_thread(system, *exception, page, sink),
         Act::End(why) => write_end(system, *why, page, sink),
         Act::Go(_) => write_alone("go", page, sink),
         Act::Yield => write_alone("yield", page, sink),
         Act::Quiet => write_alone("quiet", page, sink),
         Act::Halt => write_alone("halt", page, sink),
-        Act::Alloc(size) => write_signed("alloc", size, page, sink),
+        Act::Alloc(size) => write_signed("alloc", *size, page, sink),
         Act::Size(object) => write_number("size", object.0, page, sink),
-        Act::Get { object, at, width } => write_get(*object, at, *width, page, sink),
+        Act::Get { object, at, width } => write_get(*object, *at, *width, page, sink),
         Act::Set {
             object,
             at,
             width,
             value,
-        } => { write_set(*object, at, *width, value, page, sink) }
+        } => { write_set(*object, *at, *width, *value, page, sink) }
         Act::Fill {
             object,
             at,
             count,
             byte,
-        } => { write_fill(*object, at, count, *byte, page, sink) }
+        } => { write_fill(*object, *at, *count, *byte, page, sink) }
         Act::Copy {
             source,
             at,
             target,
             target_at,
             count,
-        } => { write_copy(*source, at, *target, target_at, count, page, sink) }
-        Act::Sub { object, at, count } => write_sub(*object, at, count, page, sink),
-        Act::Split { object, at } => write_split(*object, at, page, sink),
+        } => { write_copy(*source, *at, *target, *target_at, *count, page, sink) }
+        Act::Sub { object, at, count } => write_sub(*object, *at, *count, page, sink),
+        Act::Split { object, at } => write_split(*object, *at, page, sink),
         Act::Revoke(object) => write_number("revoke", object.0, page, sink),
         Act::Release(object) => write_number("drop", object.0, page, sink),
     }

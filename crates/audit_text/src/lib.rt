@@ -6,6 +6,7 @@ mod audit;
 mod console;
 mod domains;
 mod entries;
+mod memory_acts;
 mod names;
 mod parcels;
 mod reasons;
@@ -14,3 +15,4 @@ mod totals;
 mod words;
 
 pub use audit::render;
+pub use entries::write_entries;

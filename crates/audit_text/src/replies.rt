@@ -98,7 +98,7 @@ pub fn write_reply<K: Sink>(
         Reply::Thrown(parcel) => write_carried(system, "thrown", parcel, page, sink),
         Reply::CopyFailed => write_alone("copyfailed", page, sink),
         Reply::Ended => write_alone("ended", page, sink),
-        Reply::Number(value) => write_signed("number", value, page, sink),
+        Reply::Number(value) => write_signed("number", *value, page, sink),
         Reply::Made(object, place) => write_placed("made", object.0, *place, page, sink),
         Reply::Object(object) => write_number("object", object.0, page, sink),
         Reply::Pair(first, second) => write_pair(*first, *second, page, sink),

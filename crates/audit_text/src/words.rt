@@ -43,14 +43,14 @@ pub fn write_number<K: Sink>(
 #[tactic(auto, unfolding(page_text::specs::Pieces::piece_text))]
 pub fn write_signed<K: Sink>(
     word: &str,
-    number: &i32,
+    number: i32,
     page: &mut Page,
     sink: &mut K,
 ) -> Result<(), Failed>
-    ensures { Writes (behind (word.now ∷ signed_decimal number.now ∷ []))
+    ensures { Writes (behind (word.now ∷ signed_decimal number ∷ []))
         (page.old, K.state sink.old) (page.new, K.state sink.new) result }
 {
-    write_behind(&[Piece::Plain(word), Piece::Signed(*number)], page, sink)
+    write_behind(&[Piece::Plain(word), Piece::Signed(number)], page, sink)
 }
 
 /// Writes a word and a text in quotes.

@@ -1,5 +1,5 @@
 -- The history that is made by hand is admitted.
-use Rattle.std.specs.Prelude.{◌≡◌, refl, ◌<◌, ◌^◌, List, [], ◌∷◌}
+use Rattle.std.specs.Prelude.{◌≡◌, refl, ◌<◌, ◌^◌, List}
 use Rattle.std.specs.List.{AllByRecursion}
 use Rattle.std.proofs.Common.{arith, subst, sym, inl}
 use Rattle.jx_base.specs.declared.act.Entry.{Entry}
@@ -49,7 +49,7 @@ is_admitted s h p q =
     (subst (λ (entries : List Entry). IsAdmitted small_system (record { entries = entries })) (sym q) admitted)
 
 supported : HasSupportedActs made
-unfolding opened_model plain_entry hand_made is_supported
+unfolding is_supported plain_entry hand_made
 supported = (refl, (refl, (refl, (refl, (refl, (refl, (refl, (refl, tt))))))))
 
 pub has_supported_acts : (h : History) → h.entries ≡ hand_made → HasSupportedActs h

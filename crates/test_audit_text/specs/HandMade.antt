@@ -1,5 +1,5 @@
 -- A system without classes, and histories of it that are made by hand.
-use Rattle.std.specs.Prelude.{ℕ, pos, negsuc, true, List, [], ◌∷◌, Some, None, codes}
+use Rattle.std.specs.Prelude.{ℕ, negsuc, true, List, [], ◌∷◌, codes}
 use Rattle.jx_base.specs.declared.act.Act.{Act}
 use Rattle.jx_base.specs.declared.act.Act.TheVariants as act
 use Rattle.jx_base.specs.declared.act.Reason.TheVariants as reason

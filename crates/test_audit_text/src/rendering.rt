@@ -15,7 +15,7 @@ const WANTED: &str =
     "jx audit 1\n1 0 0 create \"a\" -> domain 1 at 0\n2 0 0 create \"b\" -> domain 2 at 8\n3 1 0 print \"a\\u0022\\u005c\\u001f ~\\u007f\\uabcd\\ud800\" -> done\n4 1 0 yield -> done\n5 1 0 go -> done\n6 1 0 exit -5 -> done\n7 2 0 end fuel -> done\n8 0 0 quiet -> done\nconsole\n1 \"a\\u0022\\u005c\\u001f ~\\u007f\\uabcd\\ud800\"\ndomains\n1 \"a\" by 0 ended exit -5\n2 \"b\" by 0 ended fuel\ncalls\nmemory 0 of 64\nwords 65 of 9000\nend quiet\n";
 
 #[tactic(auto, unfolding(crate::specs::HandMade::small_template))]
-fn template(alloc: Global, name: &str) -> Result<Template, OutOfMemory>
+pub fn template(alloc: Global, name: &str) -> Result<Template, OutOfMemory>
     ensures { IfOk result (λ template. template ≡ small_template name.now) }
 {
     Ok(Template {
@@ -61,7 +61,7 @@ fn entry(domain: u32, act: Act, reply: Reply) -> Entry
 }
 
 #[tactic(auto, unfolding(crate::specs::HandMade::odd_text))]
-fn odd_text(alloc: Global) -> Result<Text, OutOfMemory>
+pub fn odd_text(alloc: Global) -> Result<Text, OutOfMemory>
     ensures { IfOk result (λ text. text ≡ odd_text) }
 {
     let units = vec![in alloc; 0x61, 0x22, 0x5c, 0x1f, 0x20, 0x7e, 0x7f, 0xabcd, 0xd800]?;

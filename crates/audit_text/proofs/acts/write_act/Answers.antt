@@ -1,3 +1,7 @@
+use mir.Syntax.{w32}
+use mir.Val.{SFits}
+use Rattle.std.proofs.Common.{rules}
+use Rattle.std.proofs.lemmas.Int.{to_z-of_z}
 use Rattle.audit_model.specs.Audit.{act_word, act_operands}
 use Rattle.audit_text.specs.Rendering.{asked_text, spaced_act}
 use Rattle.audit_text.proofs.acts.write_act.Goals as goal
@@ -48,11 +52,17 @@ returns-in-Spawn g c = rw (c.in-Spawn.is, ← c.as_slice-in-Spawn.ensures) c.wri
 
 pub returns-in-Kill : goal.returns-in-Kill
 unfolding spaced_act asked_text act_word act_operands
-returns-in-Kill g c = rw (c.in-Kill.is) c.write_signed.ensures
+returns-in-Kill g c =
+    let fits : SFits w32 c.in-Kill.domain = search rules in
+    let written = simp to_z-of_z at c.write_signed.ensures in
+    rw (c.in-Kill.is) written
 
 pub returns-in-Exit : goal.returns-in-Exit
 unfolding spaced_act asked_text act_word act_operands
-returns-in-Exit g c = rw (c.in-Exit.is) c.write_signed-in-Exit.ensures
+returns-in-Exit g c =
+    let fits : SFits w32 c.in-Exit.code = search rules in
+    let written = simp to_z-of_z at c.write_signed-in-Exit.ensures in
+    rw (c.in-Exit.is) written
 
 pub returns-in-EndThread : goal.returns-in-EndThread
 unfolding spaced_act asked_text act_word act_operands
@@ -80,7 +90,10 @@ returns-in-Halt g c = rw (c.in-Halt.is) c.write_alone-in-Halt.ensures
 
 pub returns-in-Alloc : goal.returns-in-Alloc
 unfolding spaced_act asked_text act_word act_operands
-returns-in-Alloc g c = rw (c.in-Alloc.is) c.write_signed-in-Alloc.ensures
+returns-in-Alloc g c =
+    let fits : SFits w32 c.in-Alloc.size = search rules in
+    let written = simp to_z-of_z at c.write_signed-in-Alloc.ensures in
+    rw (c.in-Alloc.is) written
 
 pub returns-in-Size : goal.returns-in-Size
 unfolding spaced_act asked_text act_word act_operands
@@ -88,27 +101,50 @@ returns-in-Size g c = rw (c.in-Size.is) c.write_number-in-Size.ensures
 
 pub returns-in-Get : goal.returns-in-Get
 unfolding spaced_act asked_text act_word act_operands
-returns-in-Get g c = rw (c.in-Get.is) c.write_get.ensures
+returns-in-Get g c =
+    let fits : SFits w32 c.in-Get.at = search rules in
+    let written = simp to_z-of_z at c.write_get.ensures in
+    rw (c.in-Get.is) written
 
 pub returns-in-Set : goal.returns-in-Set
 unfolding spaced_act asked_text act_word act_operands
-returns-in-Set g c = rw (c.in-Set.is) c.write_set.ensures
+returns-in-Set g c =
+    let at_fits : SFits w32 c.in-Set.at = search rules in
+    let value_fits : SFits w32 c.in-Set.value = search rules in
+    let written = simp to_z-of_z at c.write_set.ensures in
+    rw (c.in-Set.is) written
 
 pub returns-in-Fill : goal.returns-in-Fill
 unfolding spaced_act asked_text act_word act_operands
-returns-in-Fill g c = rw (c.in-Fill.is) c.write_fill.ensures
+returns-in-Fill g c =
+    let at_fits : SFits w32 c.in-Fill.at = search rules in
+    let count_fits : SFits w32 c.in-Fill.count = search rules in
+    let written = simp to_z-of_z at c.write_fill.ensures in
+    rw (c.in-Fill.is) written
 
 pub returns-in-Copy : goal.returns-in-Copy
 unfolding spaced_act asked_text act_word act_operands
-returns-in-Copy g c = rw (c.in-Copy.is) c.write_copy.ensures
+returns-in-Copy g c =
+    let at_fits : SFits w32 c.in-Copy.at = search rules in
+    let target_at_fits : SFits w32 c.in-Copy.target_at = search rules in
+    let count_fits : SFits w32 c.in-Copy.count = search rules in
+    let written = simp to_z-of_z at c.write_copy.ensures in
+    rw (c.in-Copy.is) written
 
 pub returns-in-Sub : goal.returns-in-Sub
 unfolding spaced_act asked_text act_word act_operands
-returns-in-Sub g c = rw (c.in-Sub.is) c.write_sub.ensures
+returns-in-Sub g c =
+    let at_fits : SFits w32 c.in-Sub.at = search rules in
+    let count_fits : SFits w32 c.in-Sub.count = search rules in
+    let written = simp to_z-of_z at c.write_sub.ensures in
+    rw (c.in-Sub.is) written
 
 pub returns-in-Split : goal.returns-in-Split
 unfolding spaced_act asked_text act_word act_operands
-returns-in-Split g c = rw (c.in-Split.is) c.write_split.ensures
+returns-in-Split g c =
+    let fits : SFits w32 c.in-Split.at = search rules in
+    let written = simp to_z-of_z at c.write_split.ensures in
+    rw (c.in-Split.is) written
 
 pub returns-in-Revoke : goal.returns-in-Revoke
 unfolding spaced_act asked_text act_word act_operands

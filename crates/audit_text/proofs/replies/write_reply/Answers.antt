@@ -1,3 +1,7 @@
+use mir.Syntax.{w32}
+use mir.Val.{SFits}
+use Rattle.std.proofs.Common.{rules}
+use Rattle.std.proofs.lemmas.Int.{to_z-of_z}
 use Rattle.audit_model.specs.Audit.{reply_word, reply_operands}
 use Rattle.audit_text.specs.Rendering.{asked_text, spaced_reply}
 use Rattle.audit_text.proofs.replies.write_reply.Goals as goal
@@ -40,7 +44,10 @@ returns-in-Ended g c = rw (c.in-Ended.is) c.write_alone-in-Ended.ensures
 
 pub returns-in-Number : goal.returns-in-Number
 unfolding spaced_reply asked_text reply_word reply_operands
-returns-in-Number g c = rw (c.in-Number.is) c.write_signed.ensures
+returns-in-Number g c =
+    let fits : SFits w32 c.in-Number.value = search rules in
+    let written = simp to_z-of_z at c.write_signed.ensures in
+    rw (c.in-Number.is) written
 
 pub returns-in-Made : goal.returns-in-Made
 unfolding spaced_reply asked_text reply_word reply_operands
