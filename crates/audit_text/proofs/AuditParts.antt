@@ -1,7 +1,7 @@
 -- The parts of an audit.
-use Rattle.std.proofs.Common.{◌≡◌, ℕ, List, [], ◌∷◌, ◌++◌, append_assoc, append-nil, reverse}
+use Rattle.std.proofs.Common.{◌≡◌, ℕ, List, [], ◌∷◌, ◌++◌, append_assoc, reverse}
 use Rattle.std.specs.Prelude.{codes}
-use Rattle.std.specs.List.{AllByRecursion, flat_map}
+use Rattle.std.specs.List.{flat_map}
 use Rattle.jx_base.specs.declared.act.Entry.{Entry}
 use Rattle.jx_base.specs.declared.act.History.{History}
 use Rattle.jx_base.specs.declared.program.System.{System}
@@ -10,17 +10,17 @@ use Rattle.jx_base.specs.Basics.{up_to}
 use Rattle.program_model.specs.Limits.{granule_limit, journal_limit}
 use Rattle.jx_base.specs.Histories.{Past, past_of}
 use Rattle.jx_model.specs.Journal.{words_of}
+use Rattle.jx_model.specs.Calls.{calls_made}
 use Rattle.jx_model.specs.Domains.{domains_made}
 use Rattle.jx_model.specs.Granules.{used_granules}
-use Rattle.audit_model.specs.AuditText.{entry_lines, console_line, domain_line, total_line, before_last, end_word, state_lines, total_lines, lines_after, audit_text}
-use Rattle.audit_text.specs.Rendering.{IsSupportedEntry}
-use Rattle.audit_text.proofs.SupportedActs.{no_calls}
+use Rattle.audit_model.specs.AuditText.{call_line, entry_lines, console_line, domain_line, total_line, before_last, end_word, state_lines, total_lines, lines_after, audit_text}
 
--- no call is unanswered
-pub state_lines-parts : (s : System) (past : Past) → AllByRecursion IsSupportedEntry past →
-    state_lines s past ≡ line (codes "domains" ∷ []) ++ (flat_map (domain_line s past) (up_to (domains_made past)) ++ line (codes "calls" ∷ []))
-unfolding state_lines up_to
-state_lines-parts s past h = rw (no_calls past h, append-nil) (simp append_assoc)
+pub state_lines-parts : (s : System) (past : Past) →
+    state_lines s past
+    ≡ line (codes "domains" ∷ [])
+    ++ (flat_map (domain_line s past) (up_to (domains_made past)) ++ (line (codes "calls" ∷ []) ++ flat_map (call_line past) (up_to (calls_made past))))
+unfolding state_lines
+state_lines-parts s past = simp append_assoc
 
 pub total_lines-parts : (s : System) (past : Past) (used granules words journal : ℕ) (ending : List ℕ) →
     used ≡ used_granules s past → granules ≡ s.plan.granules → words ≡ words_of (before_last past) → journal ≡ s.plan.journal → ending ≡ end_word past →

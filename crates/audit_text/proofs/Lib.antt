@@ -6,6 +6,11 @@ pub mod Sums
 pub mod UsedGranules
 pub mod JournalWords
 pub mod LastEntry
+pub mod Rows
 pub mod ReasonTable
+pub mod CallSteps
+pub mod LastTakes
+pub mod ServingThreads
+pub mod CallLines
 pub mod SpacedTexts
 pub mod AuditParts

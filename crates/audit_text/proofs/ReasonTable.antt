@@ -1,41 +1,22 @@
 -- The table of reasons after an entry more.
-use Rattle.std.proofs.Common.{◌≡◌, ◌≢◌, refl, sym, ◌∙◌, ap, ℕ, zero, suc, ◌+◌, ◌<◌, ◌≤◌, List, [], ◌∷◌, length, set, replicate, take, get_or, Option, Some, None, slice_get, reverse, arith, ◌⊎◌, inl, inr}
+use Rattle.std.proofs.Common.{◌≡◌, ◌≢◌, refl, sym, ◌∙◌, ap, ℕ, ◌+◌, ◌<◌, ◌≤◌, List, [], ◌∷◌, length, set, replicate, take, get_or, Option, Some, None, slice_get, reverse, arith, ◌⊎◌, inl, inr}
 use Rattle.std.proofs.lemmas.Option.{slice_get_within}
 use Rattle.jx_base.specs.declared.act.Entry.{Entry}
 use Rattle.jx_base.specs.declared.act.Reason.{Reason}
 use Rattle.jx_base.specs.Histories.{Past}
 use Rattle.jx_model.specs.Domains.{end_reason}
 use Rattle.audit_text.specs.Rendering.{HasReasons, IsSupportedEntry, noted, own_reason}
+use Rattle.audit_text.proofs.Rows.{all_there, put_there, put_elsewhere, same_or_other}
 use Rattle.audit_text.proofs.SupportedActs.{reason_for-own, reason_for-other, reason_first, reason_before, taken_one_more}
 
 -- what stands at the place of a domain
 pub found_reason : (reasons : List (Option Reason)) (past : Past) (d : ℕ) (why : Option Reason) → HasReasons reasons past → d ≤ 64 → slice_get reasons d ≡ Some why → why ≡ end_reason past d
 found_reason reasons past d why has l found = let both : Some why ≡ Some (end_reason past d) = sym found ∙ has d l in cc
 
-none_there : (n d : ℕ) → d < n → slice_get (replicate n (let none : Option Reason = None in none)) d ≡ Some None
-none_there zero d l = absurd (omega (arith, l))
-none_there (suc n) zero l = refl
-none_there (suc n) (suc d) l = none_there n d (omega (arith, l))
-
 -- no domain has ended yet
 pub no_reasons : HasReasons (replicate 65 None) []
 unfolding end_reason
-no_reasons d l = none_there 65 d (omega (arith, l))
-
-put_there : {A : Type 0} (xs : List A) (i : ℕ) (x : A) → i < length xs → slice_get (set xs i x) i ≡ Some x
-put_there [] i x l = absurd (omega (arith, l))
-put_there (y ∷ xs) zero x l = refl
-put_there (y ∷ xs) (suc i) x l = put_there xs i x (omega (arith, l))
-
-put_elsewhere : {A : Type 0} (xs : List A) (i j : ℕ) (x : A) → i ≢ j → slice_get (set xs i x) j ≡ slice_get xs j
-put_elsewhere [] i j x other = refl
-put_elsewhere (y ∷ xs) zero zero x other = absurd (other refl)
-put_elsewhere (y ∷ xs) zero (suc j) x other = refl
-put_elsewhere (y ∷ xs) (suc i) zero x other = refl
-put_elsewhere (y ∷ xs) (suc i) (suc j) x other = put_elsewhere xs i j x (λ q. other (omega (arith, q)))
-
-same_or_other : (i j : ℕ) → (i ≡ j) ⊎ (i ≢ j)
-same_or_other i j = grind arith
+no_reasons d l = all_there 65 d None (omega (arith, l))
 
 module _ (reasons : List (Option Reason)) (past : Past) (x : Entry) (has : HasReasons reasons past) (supported : IsSupportedEntry x) where
   by_own : (o : Option Reason) → own_reason x.act ≡ o → (d : ℕ) → d ≤ 64 → (x.domain.0 ≡ d) ⊎ (x.domain.0 ≢ d) → slice_get (noted x.domain.0 o reasons) d ≡ Some (end_reason (x ∷ past) d)

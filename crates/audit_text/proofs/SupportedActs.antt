@@ -16,7 +16,6 @@ use Rattle.jx_base.specs.declared.act.History.{History}
 use Rattle.jx_base.specs.declared.program.System.{System}
 use Rattle.jx_base.specs.Histories.{Past, past_of}
 use Rattle.jx_model.specs.Domains.{is_birth, makes_domain, ended_by, ended_by_act, end_reason, reason_for, named_template}
-use Rattle.jx_model.specs.Calls.{is_call, asked_by, calls_made}
 use Rattle.jx_model.specs.MemoryObjects.{is_allocation, makes_extent, extents_made}
 use Rattle.jx_model.specs.Granules.{first_fit, heap_granules}
 use Rattle.jx_model.specs.Replies.{reply_to, new_domain, ◌refuses◌else◌, given_or}
@@ -135,28 +134,6 @@ reason_first x past d why found = rw (found, end_reason) refl
 pub reason_before : (x : Entry) (past : Past) (d : ℕ) → reason_for (ended_by x) d ≡ None → end_reason (x ∷ past) d ≡ end_reason past d
 unfolding end_reason
 reason_before x past d none = rw (none, end_reason) refl
-
-no_call : (a : Act) → IsSupported a → asked_by a ≡ None
-unfolding is_supported asked_by
-no_call (act.Create t) h = refl
-no_call (act.Print text) h = refl
-no_call (act.EndThread c) h = refl
-no_call act.Quiet h = refl
-no_call (act.Go t) h = refl
-no_call (act.Exit code) h = refl
-no_call act.Yield h = refl
-no_call (act.End why) h = refl
-no_call act.Halt h = refl
-no_call _ h = absurd (cc)
-
-is_call-false : (e : Entry) → IsSupportedEntry e → is_call e ≡ false
-unfolding is_call
-is_call-false e h = rw (no_call e.act h.act) refl
-
-pub no_calls : (past : Past) → AllByRecursion IsSupportedEntry past → calls_made past ≡ 0
-unfolding Rattle.jx_base.specs.Histories.count_where
-no_calls [] h = refl
-no_calls (e ∷ past) h = count_same is_call e past (is_call-false e h.0) ∙ no_calls past h.1
 
 no_extent : (a : Act) (r : Reply) → IsSupported a → makes_extent a r ≡ false
 unfolding is_supported makes_extent

@@ -8,6 +8,7 @@ ghost use Rattle.audit_text.specs.Rendering.{HasReasons, IsSupportedEntry};
 ghost use Rattle.page_text.specs.Writes.{Writes};
 ghost use Rattle.supported_acts.specs.SupportedActs.{HasSupportedActs};
 
+use crate::calls::write_calls;
 use crate::console::write_console;
 use crate::domains::write_domains;
 use crate::entries::write_entries;
@@ -32,7 +33,8 @@ fn write_state<K: Sink>(
 {
     write_line(&[Piece::Plain("domains")], page, sink)?;
     write_domains(system, entries, reasons, page, sink)?;
-    write_line(&[Piece::Plain("calls")], page, sink)
+    write_line(&[Piece::Plain("calls")], page, sink)?;
+    write_calls(system, entries, page, sink)
 }
 
 // Writes the lines behind those of the entries.

@@ -3,6 +3,8 @@
 
 mod acts;
 mod audit;
+mod call_tables;
+mod calls;
 mod console;
 mod domains;
 mod entries;
