@@ -62,8 +62,8 @@ impl Objects {
         })
     }
 
-    // Whether so many objects more can be made. There are at most as many extents as objects.
-    fn has_room(&self, count: u8) -> bool
+    /// Whether so many objects more can be made. There are at most as many extents as objects.
+    pub fn has_room(&self, count: u8) -> bool
         ensures room { result ≡ not (lacks_in self.now count) }
         ensures extents { length self.now.extents ≤ length self.now.parts }
     {

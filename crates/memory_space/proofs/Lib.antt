@@ -1,0 +1,9 @@
+pub mod Windows
+pub mod Placed
+pub mod Forgotten
+pub mod Backed
+pub mod Made
+pub mod RunsTaken
+pub mod Allocated
+pub mod Swept
+pub mod Copied

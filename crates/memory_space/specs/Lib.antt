@@ -1,0 +1,5 @@
+pub mod ExtentLists
+pub mod Cells
+pub mod SpaceLists
+pub mod Backing
+pub mod Numbers
