@@ -9,30 +9,25 @@ use Rattle.std.proofs.lemmas.List.FromFn.{length-map-range_with_len}
 use Rattle.jx_base.specs.declared.act.Act.{Act}
 use Rattle.jx_base.specs.declared.act.Act.TheVariants as act
 use Rattle.jx_base.specs.declared.ids.CallId.{CallId}
-use Rattle.jx_base.specs.declared.ids.ServiceId.{ServiceId}
 use Rattle.jx_base.specs.declared.ids.ThreadId.{ThreadId}
 use Rattle.jx_base.specs.declared.program.System.{System}
-use Rattle.jx_base.specs.declared.states.CallState.{CallState}
-use Rattle.jx_base.specs.declared.states.CallState.TheVariants as call
 use Rattle.jx_base.specs.declared.states.DomainState.{DomainState}
-use Rattle.jx_base.specs.declared.states.ThreadState.{ThreadState}
 use Rattle.jx_base.specs.Basics.{first_some, numbered, passes, up_to}
 use Rattle.jx_base.specs.Histories.{Past}
-use Rattle.jx_base.proofs.BasicLaws.{ap2, ap3}
+use Rattle.jx_base.proofs.BasicLaws.{ap2}
 use Rattle.jx_model.specs.Calls.{Answer, answer_of, call_entry, call_stage, call_state, calls_made, is_queued, is_resumable, is_resumed, is_taken, is_unanswered, queue_head, waiting_calls}
 use Rattle.jx_model.specs.Domains.{is_live}
 use Rattle.jx_model.specs.Legal.{IsAdmittedPast}
 use Rattle.jx_model.specs.Permits.{go_at, going_thread, idle_thread, is_idle_for, is_yielded, take_at}
 use Rattle.jx_model.specs.Tables.{CallRecord, ThreadRecord, call_record, call_records, service_of_thread, thread_record, thread_records}
 use Rattle.jx_model.specs.Threads.{service_threads, thread_state, thread_where, threads_of}
-use Rattle.call_table.specs.CallLists.{CallsState, first_queued, is_queued_call, is_queued_for}
+use Rattle.call_table.specs.CallLists.{first_queued, is_queued_call, is_queued_for}
 use Rattle.call_table.specs.declared.calls.Call.{Call}
 use Rattle.domain_table.specs.DomainLists as Lists
 use Rattle.table_reads.proofs.ChoiceReads.{head_by_records, lives_by_records, resumable_by_records}
-use Rattle.table_reads.specs.TableReads.{head_in, is_answered, lives_in, place_from}
+use Rattle.table_reads.specs.TableReads.{is_answered, lives_in, place_from}
 use Rattle.table_threads.proofs.CallStages.{caller_there, not_yet}
-use Rattle.table_threads.proofs.Numbered.{numbered_at}
-use Rattle.table_threads.proofs.Records.{numbered_record, records_length}
+use Rattle.table_threads.proofs.Records.{numbered_record}
 use Rattle.nucleus.proofs.DomainReads.{first_thread, live_threads, mapped_some, place_is}
 use Rattle.nucleus.proofs.ThreadsMoved.{thread_there}
 use Rattle.table_threads.proofs.Actors.{live_made}

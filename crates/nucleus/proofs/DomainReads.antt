@@ -4,28 +4,24 @@ use Rattle.std.specs.List.{position, position_or_len}
 use Rattle.std.specs.Prelude.{nat_le, nat_lt}
 use borrow.Author.Tests.{tests}
 use Rattle.std.proofs.lemmas.Bool.Decides.{nat_tests}
-use Rattle.std.specs.Option.{option_and_then, option_map, option_or}
-use Rattle.jx_base.specs.declared.act.Act.{Act}
-use Rattle.jx_base.specs.declared.act.Act.TheVariants as act
+use Rattle.std.specs.Option.{option_and_then, option_map}
 use Rattle.jx_base.specs.declared.act.Reason.{Reason}
-use Rattle.jx_base.specs.declared.ids.ServiceId.{ServiceId}
 use Rattle.jx_base.specs.declared.ids.ThreadId.{ThreadId}
 use Rattle.jx_base.specs.declared.program.System.{System}
 use Rattle.jx_base.specs.declared.states.DomainState.{DomainState}
 use Rattle.jx_base.specs.declared.states.ThreadState.{ThreadState}
-use Rattle.jx_base.specs.declared.states.ThreadState.TheVariants as thread
-use Rattle.jx_base.specs.Basics.{numbered, passes, first_some}
+use Rattle.jx_base.specs.Basics.{numbered}
 use Rattle.jx_base.proofs.BasicLaws.{ap2}
 use Rattle.jx_model.proofs.Serving.{not_ended_yet}
 use Rattle.jx_model.specs.Domains.{domains_made, end_reason, is_live, is_made}
-use Rattle.jx_model.specs.Permits.{can_act, first_choice, first_of_choices, is_idle_for, is_yielded}
-use Rattle.jx_model.specs.Tables.{CallRecord, ThreadRecord, domain_record, domain_records, thread_records}
-use Rattle.jx_model.specs.Threads.{is_running_state, running_thread, service_threads, thread_state, thread_where}
+use Rattle.jx_model.specs.Permits.{can_act, first_choice, first_of_choices}
+use Rattle.jx_model.specs.Tables.{ThreadRecord, domain_record, domain_records, thread_records}
+use Rattle.jx_model.specs.Threads.{is_running_state, running_thread, thread_state, thread_where}
 use Rattle.domain_flags.specs.FlagLists.{IsDomain}
 use Rattle.domain_table.specs.DomainLists as Lists
 use Rattle.program_model.specs.Limits.{domain_limit}
 use Rattle.table_reads.proofs.ActingReads.{state_by_records}
-use Rattle.table_reads.proofs.ChoiceReads.{choice_by_records, lives_by_records, running_by_records, thread_by_records}
+use Rattle.table_reads.proofs.ChoiceReads.{thread_by_records}
 use Rattle.table_reads.specs.TableReads as Reads
 use Rattle.table_threads.proofs.Actors.{IsMade, domains_fit, live_by_reason, live_made, made_is}
 use Rattle.table_threads.proofs.Records.{no_record, numbered_record, records_length}

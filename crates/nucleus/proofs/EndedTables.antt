@@ -18,7 +18,7 @@ use Rattle.jx_base.specs.declared.states.CallState.{CallState}
 use Rattle.jx_base.specs.declared.states.CallState.TheVariants as call
 use Rattle.jx_base.specs.declared.states.DomainState.{DomainState}
 use Rattle.jx_base.specs.Basics.{is_number, numbered, passes}
-use Rattle.jx_base.proofs.BasicLaws.{ap2, ap3}
+use Rattle.jx_base.proofs.BasicLaws.{ap3}
 use Rattle.program_model.specs.Limits.{granule_limit}
 use Rattle.jx_laws.proofs.Runs.{HeapOf, owner_lies, owners_within}
 use Rattle.jx_model.proofs.Serving.{not_ended_yet}

@@ -30,7 +30,10 @@ use Rattle.nucleus.proofs.EndedFlags.{ended_same}
 use Rattle.nucleus.specs.Entering.{IsPlain, done_entry}
 use Rattle.nucleus.specs.Inner.{IsOf, IsPermittedIn, kept_in, past_in, state_of, with_put}
 use Rattle.nucleus.specs.NucleusStates.{ended_flags}
-use Rattle.nucleus.specs.Stepping.{IsEntered}
+use Rattle.nucleus.specs.Stepping.{IsEntered, IsStepped}
+use Rattle.nucleus.specs.declared.step.Step.{Step}
+use Rattle.nucleus.specs.declared.step.Step.TheVariants as step
+use Rattle.jx_base.specs.declared.ids.ThreadId.{ThreadId}
 use Rattle.nucleus.specs.declared.tables.Tables.{Tables}
 
 -- ---- one entry more
@@ -171,6 +174,38 @@ entered_beside_calls s x y d t a r h q o c j b k = entered s x y d t a r (call_r
 -- nothing was done to the tables of calls
 pub left : (x : Tables) → LeavesCalls x x
 left x = record { calls = refl; places = refl; objects = refl }
+
+-- ---- entries that end nothing and make no domain
+
+-- the run goes on after the entry, with the same domains
+pub record LeavesRun (e : Entry) : Type 0 where
+  pub going : is_ending e.act ≡ false
+  pub create : is_create_entry e ≡ false
+  pub birth : is_birth e ≡ false
+  pub ended : ended_by e ≡ None
+
+-- the entry was made, and it makes no domain
+abbrev pub IsMadeOf : System → Tables → Tables → Entry → Type 0
+IsMadeOf s x y e = IsEntered s (state_of x) (state_of (with_put y e)) e × (is_birth e ≡ false)
+
+-- the step that replies
+pub replied : (s : System) (x y z : Tables) (d : ℕ) (t : ThreadId) (a : Act) (r : Reply) (answer : Step) → IsMadeOf s x z (entry d t.0 a r) → y ≡ with_put z (entry d t.0 a r) → answer ≡ step.Replied t r →
+    IsStepped s (state_of x) (state_of y) d a answer
+replied s x y z d t a r answer m q p =
+    subst (λ (w : Step). IsStepped s (state_of x) (state_of y) d a w) (sym p)
+    (subst (λ (v : Tables). IsEntered s (state_of x) (state_of v) (entry d t.0 a r) × (is_birth (entry d t.0 a r) ≡ false)) (sym q) m)
+
+-- the entry of such an act was made
+pub run_entered : (s : System) (x y : Tables) (d t : ℕ) (a : Act) (r : Reply) (calls : List CallRecord) (waiting : List ℕ) → IsPermittedIn s x d t a → LeavesRun (entry d t a r) → r ≡ reply_to s (past_in x) d a →
+    y.over ≡ x.over → y.creates ≡ x.creates → y.journal ≡ x.journal →
+    IsBeside s x y (entry d t a r) calls → StandsFor s (record (kept_with x y (entry d t a r)) { calls = calls; waiting = waiting }) → IsMadeOf s x y (entry d t a r)
+run_entered s x y d t a r calls waiting h l q o c j b k =
+    let e : Entry = entry d t a r in
+    (entered s x y d t a r calls waiting h q (o ∙ ap (λ (b : Bool). b || x.over) (sym l.going)) (c ∙ count (is_create_entry e) l.create) j b k, l.birth)
+  where
+    count : (b : Bool) → b ≡ false → x.creates ≡ x.creates + (if b then 1 else 0)
+    count false q = omega arith
+    count true q = cc
 
 -- ---- acts that change no table
 

@@ -5,7 +5,10 @@ use Rattle.jx_base.specs.declared.act.Act.{Act}
 use Rattle.jx_base.specs.declared.act.Act.TheVariants as act
 use Rattle.jx_base.specs.declared.act.Reason.{Reason}
 use Rattle.jx_base.specs.declared.act.Reply.TheVariants as reply
+use Rattle.jx_base.specs.declared.ids.CallId.{CallId}
 use Rattle.jx_base.specs.declared.ids.ClassId.{ClassId}
+use Rattle.jx_base.specs.declared.ids.MethodId.{MethodId}
+use Rattle.jx_base.specs.declared.value.Parcel.{Parcel}
 use Rattle.jx_base.specs.declared.ids.ServiceId.{ServiceId}
 use Rattle.jx_base.specs.declared.ids.ThreadId.{ThreadId}
 use Rattle.jx_base.specs.declared.program.System.{System}
@@ -83,19 +86,24 @@ ends_as x d t c = by (Lists.thread_in x.domains d t)
 
 -- ---- what is left
 
-pub plain_left : (a : Act) → HasEntry a → ((i : ClassId) (k : ℕ) → a ≢ act.Export i k) → ((m : List ℕ) (k : ServiceId) → a ≢ act.Bind m k) → ((m : List ℕ) → a ≢ act.Lookup m) → ((t : ℕ) → a ≢ act.Create t) → a ≢ act.Quiet → a ≢ act.Halt → ((c : ℤ) → a ≢ act.Exit c) → ((r : Reason) → a ≢ act.End r) →
+pub plain_left : (a : Act) → HasEntry a → ((i : ClassId) (k : ℕ) → a ≢ act.Export i k) → ((m : List ℕ) (k : ServiceId) → a ≢ act.Bind m k) → ((m : List ℕ) → a ≢ act.Lookup m) → ((k : ServiceId) (m : MethodId) (p : Parcel) → a ≢ act.Call k m p) → ((c : CallId) → a ≢ act.Take c) → ((c : CallId) (p : Parcel) → a ≢ act.Return c p) → ((c : CallId) (p : Parcel) → a ≢ act.Throw c p) → ((c : CallId) → a ≢ act.Resume c) → ((t : ℕ) → a ≢ act.Create t) → a ≢ act.Quiet → a ≢ act.Halt → ((c : ℤ) → a ≢ act.Exit c) → ((r : Reason) → a ≢ act.End r) →
     ((t : ThreadId) → a ≢ act.Go t) → a ≢ act.Yield → ((c : Option ClassId) → a ≢ act.EndThread c) → IsPlain a
 unfolding is_supported
-plain_left (act.Print text) u v b l c q h x e g y n = tt
-plain_left (act.Export i k) u v b l c q h x e g y n = absurd (v i k refl)
-plain_left (act.Bind m k) u v b l c q h x e g y n = absurd (b m k refl)
-plain_left (act.Lookup m) u v b l c q h x e g y n = absurd (l m refl)
-plain_left (act.Create t) u v b l c q h x e g y n = absurd (c t refl)
-plain_left act.Quiet u v b l c q h x e g y n = absurd (q refl)
-plain_left act.Halt u v b l c q h x e g y n = absurd (h refl)
-plain_left (act.Exit k) u v b l c q h x e g y n = absurd (x k refl)
-plain_left (act.End r) u v b l c q h x e g y n = absurd (e r refl)
-plain_left (act.Go t) u v b l c q h x e g y n = absurd (g t refl)
-plain_left act.Yield u v b l c q h x e g y n = absurd (y refl)
-plain_left (act.EndThread k) u v b l c q h x e g y n = absurd (n k refl)
-plain_left _ u v b l c q h x e g y n = cc
+plain_left (act.Print text) u v b l w o i j f c q h x e g y n = tt
+plain_left (act.Export iface k) u v b l w o i j f c q h x e g y n = absurd (v iface k refl)
+plain_left (act.Bind m k) u v b l w o i j f c q h x e g y n = absurd (b m k refl)
+plain_left (act.Lookup m) u v b l w o i j f c q h x e g y n = absurd (l m refl)
+plain_left (act.Create t) u v b l w o i j f c q h x e g y n = absurd (c t refl)
+plain_left act.Quiet u v b l w o i j f c q h x e g y n = absurd (q refl)
+plain_left act.Halt u v b l w o i j f c q h x e g y n = absurd (h refl)
+plain_left (act.Exit k) u v b l w o i j f c q h x e g y n = absurd (x k refl)
+plain_left (act.End r) u v b l w o i j f c q h x e g y n = absurd (e r refl)
+plain_left (act.Go t) u v b l w o i j f c q h x e g y n = absurd (g t refl)
+plain_left act.Yield u v b l w o i j f c q h x e g y n = absurd (y refl)
+plain_left (act.EndThread k) u v b l w o i j f c q h x e g y n = absurd (n k refl)
+plain_left (act.Call k m p) u v b l w o i j f c q h x e g y n = absurd (w k m p refl)
+plain_left (act.Take z) u v b l w o i j f c q h x e g y n = absurd (o z refl)
+plain_left (act.Return z p) u v b l w o i j f c q h x e g y n = absurd (i z p refl)
+plain_left (act.Throw z p) u v b l w o i j f c q h x e g y n = absurd (j z p refl)
+plain_left (act.Resume z) u v b l w o i j f c q h x e g y n = absurd (f z refl)
+plain_left _ u v b l w o i j f c q h x e g y n = cc

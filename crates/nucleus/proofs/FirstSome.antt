@@ -1,5 +1,5 @@
 -- The first of several that gives something.
-use Rattle.std.proofs.Common.{◌≡◌, refl, ap, ◌∙◌, ℕ, suc, zero, ◌+◌, ◌-◌, ◌<◌, ◌≤◌, true, is_some, List, [], ◌∷◌, drop, length, Option, Some, None, arith, slice_get}
+use Rattle.std.proofs.Common.{◌≡◌, refl, ap, ◌∙◌, ℕ, suc, zero, ◌+◌, ◌<◌, ◌≤◌, true, is_some, List, [], ◌∷◌, drop, length, Option, Some, None, arith, slice_get}
 use Rattle.std.proofs.lemmas.List.{drop_all}
 use Rattle.jx_base.specs.Basics.{first_some}
 

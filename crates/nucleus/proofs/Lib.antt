@@ -1,6 +1,6 @@
 mod DomainReads
 mod Permitted
-mod Room
+pub mod Room
 mod Entered
 mod ThreadsMoved
 mod RunsTaken
@@ -19,4 +19,12 @@ mod PortalChanges
 mod ServiceReplies
 mod PortalActs
 mod ServicesMade
+mod Asked
+mod PermittedCalls
+pub mod CallMoves
+mod QueuedCalls
+mod AnsweredCalls
+mod ReceivedParcels
+mod TakenCalls
+mod ResumedCalls
 pub mod SupportedEntries

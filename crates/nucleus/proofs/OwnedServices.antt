@@ -11,7 +11,6 @@ use Rattle.std.proofs.lemmas.List.{map-id}
 use Rattle.table_threads.proofs.Numbered.{numbered_at, numbered_place, numbered_zero}
 use Rattle.table_threads.proofs.Records.{not_that, records_length}
 use Rattle.jx_base.specs.declared.ids.ClassId.{ClassId}
-use Rattle.jx_base.specs.declared.ids.DomainId.{DomainId}
 use Rattle.jx_base.specs.declared.states.AnswerKind.TheVariants as kind
 use Rattle.jx_base.specs.declared.states.CallState.TheVariants as call
 use Rattle.jx_base.specs.Basics.{is_number, numbered}
@@ -22,7 +21,6 @@ use Rattle.jx_model.specs.Tables.{ServiceRecord, service_record, service_records
 use Rattle.call_table.specs.CallLists.{ended_for, in_state, is_pending_for, is_queued_call, is_running_call}
 use Rattle.call_table.specs.declared.calls.Call.{Call}
 use Rattle.portal_table.specs.ServiceLists.{without_holder}
-use Rattle.table_reads.specs.TableReads.{owner_in}
 use Rattle.table_steps.specs.Steps.{owns}
 use Rattle.nucleus.specs.Ends.{lost_call}
 use Rattle.nucleus.specs.Inner.{IsOf, past_in}

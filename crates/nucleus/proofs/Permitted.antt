@@ -3,10 +3,12 @@ use Rattle.std.proofs.Common.{◌≡◌, ◌≢◌, refl, sym, ◌∙◌, ap, �
 use Rattle.std.specs.Option.{option_map}
 use Rattle.jx_base.specs.declared.act.Act.{Act}
 use Rattle.jx_base.specs.declared.act.Act.TheVariants as act
+use Rattle.jx_base.specs.declared.ids.CallId.{CallId}
 use Rattle.jx_base.specs.declared.ids.ClassId.{ClassId}
 use Rattle.jx_base.specs.declared.ids.DomainId.{DomainId}
 use Rattle.jx_base.specs.declared.ids.ThreadId.{ThreadId}
 use Rattle.jx_base.specs.declared.program.System.{System}
+use Rattle.jx_base.specs.declared.value.Parcel.{Parcel}
 use Rattle.jx_base.specs.declared.states.Why.{Why}
 use Rattle.jx_base.specs.declared.states.Why.TheVariants as why
 use Rattle.jx_base.specs.Basics.{is_number, passes}
@@ -34,19 +36,24 @@ unfolding why_not_asleep why_if going_thread
 stays past d t h = ap (λ (b : Bool). why_if (is_none (if b then Some t.0 else None)) (why.NotYielded t)) h
 
 -- nor may anything else come
-pub asleep : (past : Past) (d : ℕ) (a : Act) → HasEntry a → ((t : ThreadId) → a ≢ act.Go t) → why_not_asleep past d a ≡ Some why.Asleep
-unfolding why_not_asleep is_supported
-asleep past d (act.Go t) u n = absurd (n t refl)
-asleep past d (act.Take c) u n = cc
-asleep past d (act.Resume c) u n = cc
-asleep past d _ u n = refl
+pub asleep : (past : Past) (d : ℕ) (a : Act) → ((t : ThreadId) → a ≢ act.Go t) → ((c : CallId) → a ≢ act.Take c) → ((c : CallId) → a ≢ act.Resume c) → why_not_asleep past d a ≡ Some why.Asleep
+unfolding why_not_asleep
+asleep past d (act.Go t) n k r = absurd (n t refl)
+asleep past d (act.Take c) n k r = absurd (k c refl)
+asleep past d (act.Resume c) n k r = absurd (r c refl)
+asleep past d _ n k r = refl
 
 -- ---- domains in which one runs
 
 -- a choice may not come
-pub runs : (past : Past) (d : ℕ) (t k : ThreadId) → why_not_running past d t.0 (act.Go k) ≡ Some (why.Running t)
-unfolding why_not_running is_choice
-runs past d t k = refl
+pub runs : (past : Past) (d : ℕ) (t : ThreadId) (a : Act) → is_choice a ≡ true → why_not_running past d t.0 a ≡ Some (why.Running t)
+unfolding why_not_running
+runs past d t a q = ap (λ (b : Bool). if b then Some (why.Running (record { 0 = t.0 })) else why_if (not (may_perform past d t.0 a)) (why.WrongThread (record { 0 = t.0 }))) q
+
+-- what is no choice and may not be performed comes in the wrong thread
+pub wrong_thread : (past : Past) (d : ℕ) (t : ThreadId) (a : Act) → is_choice a ≡ false → may_perform past d t.0 a ≡ false → why_not_running past d t.0 a ≡ Some (why.WrongThread t)
+unfolding why_not_running why_if
+wrong_thread past d t a q m = ap2 (λ (b m : Bool). if b then Some (why.Running (record { 0 = t.0 })) else if not m then Some (why.WrongThread (record { 0 = t.0 })) else None) q m
 
 -- nor the end of a thread other than 0
 pub ends_not : (past : Past) (d : ℕ) (t : ThreadId) (c : Option ClassId) → t.0 ≢ 0 → why_not_running past d t.0 (act.EndThread c) ≡ Some (why.WrongThread t)
@@ -59,21 +66,27 @@ unfolding may_perform
 ends past d t c h = is_that t 0 h
 
 -- all else may
-pub performs : (past : Past) (d t : ℕ) (a : Act) → HasEntry a → is_zero_act a ≡ false → ((k : ThreadId) → a ≢ act.Go k) → ((c : Option ClassId) → a ≢ act.EndThread c) → may_perform past d t a ≡ true
+pub performs : (past : Past) (d t : ℕ) (a : Act) → HasEntry a → is_zero_act a ≡ false → ((k : ThreadId) → a ≢ act.Go k) → ((c : Option ClassId) → a ≢ act.EndThread c) → ((c : CallId) → a ≢ act.Take c) → ((c : CallId) → a ≢ act.Resume c) → ((c : CallId) (p : Parcel) → a ≢ act.Return c p) → ((c : CallId) (p : Parcel) → a ≢ act.Throw c p) →
+    may_perform past d t a ≡ true
 unfolding may_perform is_supported is_zero_act is_choice
-performs past d t (act.Go k) u z n e = absurd (n k refl)
-performs past d t (act.EndThread c) u z n e = absurd (e c refl)
-performs past d t (act.Print text) u z n e = refl
-performs past d t (act.Export iface k) u z n e = refl
-performs past d t (act.Bind name k) u z n e = refl
-performs past d t (act.Lookup name) u z n e = refl
-performs past d t (act.Exit code) u z n e = refl
-performs past d t act.Yield u z n e = refl
-performs past d t (act.End r) u z n e = refl
-performs past d t (act.Create x) u z n e = cc
-performs past d t act.Quiet u z n e = cc
-performs past d t act.Halt u z n e = cc
-performs past d t _ u z n e = cc
+performs past d t (act.Go k) u z n e x r w y = absurd (n k refl)
+performs past d t (act.EndThread c) u z n e x r w y = absurd (e c refl)
+performs past d t (act.Take c) u z n e x r w y = absurd (x c refl)
+performs past d t (act.Resume c) u z n e x r w y = absurd (r c refl)
+performs past d t (act.Return c p) u z n e x r w y = absurd (w c p refl)
+performs past d t (act.Throw c p) u z n e x r w y = absurd (y c p refl)
+performs past d t (act.Print text) u z n e x r w y = refl
+performs past d t (act.Export iface k) u z n e x r w y = refl
+performs past d t (act.Bind name k) u z n e x r w y = refl
+performs past d t (act.Lookup name) u z n e x r w y = refl
+performs past d t (act.Call k m p) u z n e x r w y = refl
+performs past d t (act.Exit code) u z n e x r w y = refl
+performs past d t act.Yield u z n e x r w y = refl
+performs past d t (act.End why) u z n e x r w y = refl
+performs past d t (act.Create template) u z n e x r w y = cc
+performs past d t act.Quiet u z n e x r w y = cc
+performs past d t act.Halt u z n e x r w y = cc
+performs past d t _ u z n e x r w y = cc
 
 -- ---- a domain
 

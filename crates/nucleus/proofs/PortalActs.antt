@@ -1,5 +1,5 @@
 -- An export, a bind or a lookup: the tables with its entry are those of the past with it.
-use Rattle.std.proofs.Common.{◌≡◌, refl, sym, ◌∙◌, ap, subst, ℕ, ◌+◌, ◌-◌, ◌≤◌, Bool, true, false, not, ◌||◌, List, [], ◌∷◌, length, Option, Some, None, is_some, arith, ◌==◌, if◌then◌else◌, ◌⊎◌, inl, inr}
+use Rattle.std.proofs.Common.{◌≡◌, refl, sym, ◌∙◌, ap, subst, ℕ, ◌+◌, ◌-◌, ◌≤◌, Bool, true, false, not, List, [], ◌∷◌, length, Option, Some, None, is_some, arith, ◌==◌, if◌then◌else◌, ◌⊎◌, inl, inr}
 use Rattle.std.specs.Prelude.{nat_le}
 use Rattle.std.specs.Option.{option_and_then}
 use Rattle.std.proofs.lemmas.List.{length-append}
@@ -14,10 +14,10 @@ use Rattle.jx_base.specs.declared.act.Reply.{Reply}
 use Rattle.jx_base.specs.declared.act.Reply.TheVariants as reply
 use Rattle.jx_base.specs.declared.ids.ClassId.{ClassId}
 use Rattle.jx_base.specs.declared.ids.ServiceId.{ServiceId}
-use Rattle.jx_base.specs.declared.ids.ThreadId.{ThreadId}
 use Rattle.jx_base.specs.declared.program.System.{System}
 use Rattle.jx_base.specs.Basics.{is_number, numbered, passes}
 use Rattle.jx_base.specs.Histories.{Past}
+use Rattle.jx_model.specs.Calls.{waiting_calls}
 use Rattle.jx_model.specs.Domains.{ended_by, ended_by_act, is_birth, is_live, makes_domain}
 use Rattle.jx_model.specs.Journal.{act_words, entry_words, is_full, reply_words, words_of}
 use Rattle.jx_model.specs.Legal.{IsNext}
@@ -26,15 +26,12 @@ use Rattle.jx_model.specs.Portals.{gives_portal, received_parcel, received_servi
 use Rattle.jx_model.specs.Replies.{portal_reply, reply_to, ◌refuses◌else◌}
 use Rattle.jx_model.specs.Tables.{ServiceRecord, StandsFor, call_records}
 use Rattle.nucleus.proofs.EndedFlags.{ended_same}
-use Rattle.nucleus.proofs.Entered.{IsBeside, costs_less, entered_beside_calls, kept_with, left, same_beside}
+use Rattle.nucleus.proofs.Entered.{IsBeside, IsMadeOf, LeavesRun, costs_less, kept_with, left, run_entered, same_beside}
 use Rattle.nucleus.proofs.PortalChanges.{handed_lookup}
 use Rattle.nucleus.proofs.Room.{goes_on, room_left}
 use Rattle.nucleus.proofs.ServiceReplies.{bind_is, export_is, found_interface, found_made, lookup_is}
-use Rattle.nucleus.specs.Inner.{IsPermittedIn, kept_in, past_in, state_of, with_put}
+use Rattle.nucleus.specs.Inner.{IsPermittedIn, kept_in, past_in}
 use Rattle.nucleus.specs.Portals.{IsPortalReply, with_service, with_services}
-use Rattle.nucleus.specs.Stepping.{IsEntered, IsStepped}
-use Rattle.nucleus.specs.declared.step.Step.{Step}
-use Rattle.nucleus.specs.declared.step.Step.TheVariants as step
 use Rattle.nucleus.specs.declared.tables.Tables.{Tables}
 use Rattle.portal_table.specs.ServiceLists as Portals
 use Rattle.portal_table.specs.NameLists.{name_words}
@@ -112,24 +109,6 @@ module _ (x : Portals.ServicesState) where
 
 -- ---- entries that end nothing and make no domain
 
--- the run goes on after the entry, with the same domains
-record LeavesRun (e : Entry) : Type 0 where
-  pub going : is_ending e.act ≡ false
-  pub create : is_create_entry e ≡ false
-  pub birth : is_birth e ≡ false
-  pub ended : ended_by e ≡ None
-
--- the entry was made, and it makes no domain
-abbrev pub IsMadeOf : System → Tables → Tables → Entry → Type 0
-IsMadeOf s x y e = IsEntered s (state_of x) (state_of (with_put y e)) e × (is_birth e ≡ false)
-
--- the step that replies
-pub replied : (s : System) (x y z : Tables) (d : ℕ) (t : ThreadId) (a : Act) (r : Reply) (answer : Step) → IsMadeOf s x z (entry d t.0 a r) → y ≡ with_put z (entry d t.0 a r) → answer ≡ step.Replied t r →
-    IsStepped s (state_of x) (state_of y) d a answer
-replied s x y z d t a r answer m q p =
-    subst (λ (w : Step). IsStepped s (state_of x) (state_of y) d a w) (sym p)
-    (subst (λ (v : Tables). IsEntered s (state_of x) (state_of v) (entry d t.0 a r) × (is_birth (entry d t.0 a r) ≡ false)) (sym q) m)
-
 exported : (d t : ℕ) (iface : ClassId) (n : ℕ) (r : Reply) → LeavesRun (entry d t (act.Export iface n) r)
 unfolding is_ending is_create_entry is_create is_birth makes_domain ended_by ended_by_act
 exported d t iface n r = record { going = refl; create = refl; birth = refl; ended = refl }
@@ -146,16 +125,10 @@ module _ (s : System) (x : Tables) (d t : ℕ) where
   -- the tables with such an entry
   run_put : (y : Tables) (a : Act) (r : Reply) → IsPermittedIn s x d t a → LeavesRun (entry d t a r) → r ≡ reply_to s (past_in x) d a → y.over ≡ x.over → y.creates ≡ x.creates → y.journal ≡ x.journal →
       IsBeside s x y (entry d t a r) (call_records (past_in x)) → StandsFor s (kept_with x y (entry d t a r)) → IsMadeOf s x y (entry d t a r)
-  run_put y a r h l q o c j b k =
-      let e : Entry = entry d t a r in
-      (entered_beside_calls s x y d t a r h q (o ∙ ap (λ (b : Bool). b || x.over) (sym l.going)) (c ∙ count (is_create_entry e) l.create) j b k, l.birth)
-    where
-      count : (b : Bool) → b ≡ false → x.creates ≡ x.creates + (if b then 1 else 0)
-      count false q = omega arith
-      count true q = cc
+  run_put y a r h l q o c j b k = run_entered s x y d t a r (call_records (past_in x)) (waiting_calls (past_in x)) h l q o c j b k
 
   -- a refusal
-  refused_put : (a : Act) (r : Refusal) → IsPermittedIn s x d t a → LeavesRun (entry d t a (reply.Refused r)) → touches_calls a ≡ false → reply.Refused r ≡ reply_to s (past_in x) d a →
+  pub refused_put : (a : Act) (r : Refusal) → IsPermittedIn s x d t a → LeavesRun (entry d t a (reply.Refused r)) → touches_calls a ≡ false → reply.Refused r ≡ reply_to s (past_in x) d a →
       IsMadeOf s x x (entry d t a (reply.Refused r))
   refused_put a r h l p q =
       let e : Entry = entry d t a (reply.Refused r) in

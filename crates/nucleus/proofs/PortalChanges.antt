@@ -18,7 +18,7 @@ use Rattle.table_threads.proofs.Records.{is_that, not_that, same_or_not}
 use Rattle.table_threads.specs.Changes.{changed_at}
 
 -- a service with those holders
-abbrev with_holders : ServiceRecord → List Bool → ServiceRecord
+abbrev pub with_holders : ServiceRecord → List Bool → ServiceRecord
 with_holders item holders = record item { holders = holders }
 
 -- a flag after the end of a domain
@@ -48,7 +48,7 @@ handed_end k e d why q l g =
 
 module _ (e : Entry) (q : ended_by e ≡ None) where
   -- a flag of the service that is found
-  flag_given : (j x : ℕ) (held : Bool) → gives_portal j e ≡ true → portal_after e j x held ≡ (if e.domain.0 == x then true else held)
+  pub flag_given : (j x : ℕ) (held : Bool) → gives_portal j e ≡ true → portal_after e j x held ≡ (if e.domain.0 == x then true else held)
   unfolding ends_domain is_own
   flag_given j x held g =
       ap2 (λ (o : Option (ℕ × Reason)) (b : Bool). not (ends_domain o (Some x)) && ((is_own x e && b) || held)) q g ∙ by (e.domain.0 == x)
@@ -58,7 +58,7 @@ module _ (e : Entry) (q : ended_by e ≡ None) where
       by false = refl
 
   -- one of another
-  flag_left : (j x : ℕ) (held : Bool) → gives_portal j e ≡ false → portal_after e j x held ≡ held
+  pub flag_left : (j x : ℕ) (held : Bool) → gives_portal j e ≡ false → portal_after e j x held ≡ held
   unfolding ends_domain
   flag_left j x held g =
       ap2 (λ (o : Option (ℕ × Reason)) (b : Bool). not (ends_domain o (Some x)) && ((is_own x e && b) || held)) q g ∙ by (is_own x e)

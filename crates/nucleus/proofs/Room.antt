@@ -17,7 +17,7 @@ use Rattle.jx_model.specs.WellMade.{IsWellMade}
 use Rattle.supported_acts.specs.SupportedActs.{is_supported}
 use Rattle.journal.specs.Journals.{HasRoomFor, JournalState}
 use Rattle.journal.specs.Journals as Journals
-use Rattle.program_model.specs.Limits.{entry_limit, journal_limit, name_limit, text_limit}
+use Rattle.program_model.specs.Limits.{entry_limit, journal_limit, name_limit, parcel_limit, text_limit}
 use Rattle.table_threads.proofs.Records.{any_append}
 use Rattle.table_threads.specs.CallChanges.{entry}
 use Rattle.nucleus.specs.Inner.{IsPermittedIn, past_in}
@@ -46,14 +46,19 @@ goes_on s past d t a h = by (is_over past) refl (d == 0) (is_full s past) refl (
 
 -- ---- what an entry costs
 
--- an act that the nucleus enters costs 8 words and its text or name
+-- an act that the nucleus enters costs 8 words and its text, name or parcel
 pub entry_cost : (s : System) (past : Past) (a : Act) → IsWellMade s past a → HasEntry a → act_words a ≤ 4096
-unfolding act_words is_supported text_limit name_limit
+unfolding act_words is_supported text_limit name_limit parcel_limit
 entry_cost s past (act.Create t) w u = omega arith
 entry_cost s past (act.Print text) w u = w.short
 entry_cost s past (act.Export iface k) w u = omega arith
 entry_cost s past (act.Bind name k) w u = omega (arith, w.0.short)
 entry_cost s past (act.Lookup name) w u = omega (arith, w.short)
+entry_cost s past (act.Call k m p) w u = w.1.small
+entry_cost s past (act.Take c) w u = omega arith
+entry_cost s past (act.Return c p) w u = w.0.small
+entry_cost s past (act.Throw c p) w u = w.0.small
+entry_cost s past (act.Resume c) w u = omega arith
 entry_cost s past (act.Go t) w u = omega arith
 entry_cost s past (act.Exit code) w u = omega arith
 entry_cost s past act.Yield w u = omega arith
@@ -105,6 +110,17 @@ no_halt (e ∷ es) h = by (is_ending e.act) refl (list_any (λ e. is_ending e.ac
 -- a journal that isn't full has room for an entry of the largest cost
 pub room_left : (w l : ℕ) → nat_lt l (w + 4104) ≡ false → w + 4104 ≤ l
 room_left w l q = grind (arith, nat_tests)
+
+-- the entry of a permitted act other than a halt has room, where its words and those of its reply are few
+pub has_room_beside : (s : System) (x : Tables) (d t : ℕ) (a : Act) (r : Reply) → IsPermittedIn s x d t a → is_halt a ≡ false → act_words a + reply_words r ≤ 4096 → HasRoomFor x.journal (entry d t a r)
+unfolding is_full entry_words entry_limit
+has_room_beside s x d t a r h n few = by (goes_on s (past_in x) d t a h.thread).room
+  where
+    by : (is_full s (past_in x) ≡ false) ⊎ (is_halt a ≡ true) → HasRoomFor x.journal (entry d t a r)
+    by (inl q) =
+        let room = room_left (words_of (past_in x)) (journal_limit s) q in
+        inl (record { cost = omega (arith, few); room = omega (arith, room, h.tables.journal) })
+    by (inr q) = cc
 
 -- the entry of a permitted act has room, whatever journal it is
 pub has_room : (s : System) (x : Tables) (d t : ℕ) (a : Act) (r : Reply) → IsPermittedIn s x d t a → reply_words r ≡ 0 → HasRoomFor x.journal (entry d t a r)

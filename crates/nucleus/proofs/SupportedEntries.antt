@@ -8,4 +8,9 @@ pub supported_has_entry : (a : Act) → IsSupported a → HasEntry a
 supported_has_entry (act.Export iface k) u = tt
 supported_has_entry (act.Bind name k) u = tt
 supported_has_entry (act.Lookup name) u = tt
+supported_has_entry (act.Call k m p) u = tt
+supported_has_entry (act.Take c) u = tt
+supported_has_entry (act.Return c p) u = tt
+supported_has_entry (act.Throw c p) u = tt
+supported_has_entry (act.Resume c) u = tt
 supported_has_entry _ u = u

@@ -1,5 +1,5 @@
 -- An act that changes the state of its thread.
-use Rattle.std.proofs.Common.{◌≡◌, refl, sym, ◌∙◌, ap, subst, ℕ, suc, zero, ◌+◌, ◌≤◌, true, false, List, [], ◌∷◌, length, Option, Some, None, is_some, arith, slice_get}
+use Rattle.std.proofs.Common.{◌≡◌, refl, sym, ◌∙◌, ap, subst, ℕ, suc, zero, ◌+◌, ◌≤◌, true, false, List, length, Option, Some, None, is_some, arith, slice_get}
 use Rattle.std.specs.Option.{option_and_then, option_map}
 use Rattle.jx_base.specs.declared.act.Act.{Act}
 use Rattle.jx_base.specs.declared.act.Act.TheVariants as act

@@ -1,5 +1,5 @@
 -- What the tables of calls and of their places have, by what is kept of each call.
-use Rattle.std.specs.Prelude.{◌≡◌, ℕ, Bool, true, false, List, map, Option, Some, None, if◌then◌else◌}
+use Rattle.std.specs.Prelude.{◌≡◌, ℕ, Bool, true, false, List, map, Option, None, if◌then◌else◌}
 use Rattle.jx_base.specs.declared.states.AnswerKind.TheVariants as kind
 use Rattle.jx_base.specs.declared.states.CallState.{CallState}
 use Rattle.jx_base.specs.declared.states.CallState.TheVariants as call

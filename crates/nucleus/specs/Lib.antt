@@ -1,3 +1,4 @@
+pub mod Asking
 pub mod CallTables
 pub mod PlaceLists
 pub mod NucleusStates
@@ -7,3 +8,4 @@ pub mod Entering
 pub mod Births
 pub mod Ends
 pub mod Portals
+pub mod CallActs

@@ -1,5 +1,5 @@
 -- What the places of parcels are seen as: a plain list, those of call n at place n - 1.
-use Rattle.std.specs.Prelude.{◌≤◌, ℕ, List, length, Option, Some, None, vec_capacity}
+use Rattle.std.specs.Prelude.{◌≤◌, ℕ, List, length, Option, None, vec_capacity}
 use Rattle.nucleus.specs.declared.places.CallPlaces.{CallPlaces}
 use Rattle.nucleus.specs.declared.places.Places.TheInside.{Inside}
 

@@ -7,13 +7,24 @@ use Rattle.domain_table.specs.DomainLists as Lists
 use Rattle.portal_table.specs.ServiceLists.{ServicesState, new_service}
 use Rattle.nucleus.specs.declared.tables.Tables.{Tables}
 
--- a reply to an export, a bind or a lookup
+-- a reply to an act on services, names and calls that carries no parcel
 abbrev pub IsPortalReply : Reply → Type 0
 IsPortalReply (reply.Service k c) = Unit {0}
 IsPortalReply (reply.Refused r) = Unit {0}
 IsPortalReply reply.NoName = Unit {0}
+IsPortalReply (reply.Queued c) = Unit {0}
 IsPortalReply reply.Done = Unit {0}
 IsPortalReply _ = ⊥
+
+-- a reply to a take or a resume
+abbrev pub IsReceivedReply : Reply → Type 0
+IsReceivedReply (reply.Job k m p) = Unit {0}
+IsReceivedReply (reply.Value p) = Unit {0}
+IsReceivedReply (reply.Thrown p) = Unit {0}
+IsReceivedReply reply.CopyFailed = Unit {0}
+IsReceivedReply reply.Ended = Unit {0}
+IsReceivedReply reply.Done = Unit {0}
+IsReceivedReply _ = ⊥
 
 -- the tables with those services
 abbrev pub with_services : Tables → ServicesState → Tables

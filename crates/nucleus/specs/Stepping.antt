@@ -23,12 +23,23 @@ use Rattle.nucleus.specs.declared.step.Ending.TheVariants as ending
 use Rattle.nucleus.specs.declared.step.Step.{Step}
 use Rattle.nucleus.specs.declared.step.Step.TheVariants as step
 
--- the nucleus enters the act: an export, a bind, a lookup, or an act with code
+-- the nucleus enters the act: one on services, names and calls, or an act with code
 abbrev pub HasEntry : Act → Type 0
 HasEntry (act.Export iface k) = Unit {0}
 HasEntry (act.Bind name service) = Unit {0}
 HasEntry (act.Lookup name) = Unit {0}
+HasEntry (act.Call service method parcel) = Unit {0}
+HasEntry (act.Take c) = Unit {0}
+HasEntry (act.Return c parcel) = Unit {0}
+HasEntry (act.Throw c parcel) = Unit {0}
+HasEntry (act.Resume c) = Unit {0}
 HasEntry a = IsSupported a
+
+-- the reply to the act may be a copy of a parcel, which takes memory
+abbrev pub TakesMemory : Act → Type 0
+TakesMemory (act.Take c) = Unit {0}
+TakesMemory (act.Resume c) = Unit {0}
+TakesMemory _ = ⊥
 
 -- the act may be asked for: of Domain Zero or of a domain that was made, well made, and one that the nucleus enters
 pub record MayCome (s : System) (past : Past) (d : ℕ) (a : Act) : Type 0 where
@@ -76,6 +87,7 @@ abbrev pub IsRefusal : System → Past → ℕ → Act → Step → Type 0
 IsRefusal s past d a (step.Over x) = IsOver past d x
 IsRefusal s past d a (step.Full words) = IsFull s past d a words
 IsRefusal s past d a (step.NotNow why) = IsRefused s past d a why
+IsRefusal s past d a step.OutOfMemory = TakesMemory a
 IsRefusal s past d a _ = ⊥
 
 -- the entry of the act was made, with that reply, or nothing has changed, and why

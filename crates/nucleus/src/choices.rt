@@ -21,8 +21,8 @@ fn is_answered(state: CallState) -> bool
 }
 
 impl Tables {
-    // Whether the domain was made and has not ended.
-    fn lives(&self, domain: DomainId) -> bool
+    /// Whether the domain was made and has not ended.
+    pub fn lives(&self, domain: DomainId) -> bool
         ensures { result ≡ lives_in self.now.domains.domains domain.0 }
     {
         match self.domains.state(domain) {

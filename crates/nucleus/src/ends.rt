@@ -16,8 +16,8 @@ use jx_base::{Act, DomainId, Reason, Reply, ServiceId, System, ThreadId};
 const MOST_SERVICES: u32 = 256;
 
 impl Tables {
-    // Whether the domain exported the service.
-    fn owns(&self, domain: DomainId, service: ServiceId) -> bool
+    /// Whether the domain exported the service.
+    pub fn owns(&self, domain: DomainId, service: ServiceId) -> bool
         ensures { result ≡ owns self.now.services.services domain.0 service.0 }
     {
         match self.services.owner(service) {

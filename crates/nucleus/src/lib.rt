@@ -2,7 +2,9 @@
 //! before it give.
 #![tactic(auto)]
 
+mod asking;
 mod birth;
+mod calls;
 mod choices;
 mod ends;
 mod entering;
@@ -11,7 +13,9 @@ mod opening;
 mod permitting;
 mod places;
 mod portals;
+mod putting;
 mod reading;
+mod receiving;
 mod step;
 mod stepping;
 mod tables;

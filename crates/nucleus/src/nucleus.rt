@@ -17,7 +17,7 @@ use std::alloc::Global;
 use std::marker::Model;
 
 /// The nucleus of a run. It is seen as its past with the tables that are kept beside it, and stands
-/// for a system by a relation (`IsNucleusOf`). Only `open` takes memory.
+/// for a system by a relation (`IsNucleusOf`). Only `open`, and `step` for copies of parcels, take memory.
 #[derive(Drop)]
 pub struct Nucleus {
     tables: Tables,
@@ -45,13 +45,13 @@ impl Nucleus {
     }
 
     /// Asks for an act of the domain: its entry with the permitted thread and the reply that the
-    /// past gives is made, or nothing changes.
-    pub fn step(&mut self, system: &System, domain: DomainId, act: Act) -> Step
+    /// past gives is made, or nothing changes. A take or a resume takes memory, for the parcel.
+    pub fn step(&mut self, alloc: Global, system: &System, domain: DomainId, act: Act) -> Step
         requires nucleus { IsNucleusOf system.now self.old }
         requires act { MayCome system.now self.old.kept.past domain.0 act }
         ensures { IsStepped system.now self.old self.new domain.0 act result }
     {
-        self.tables.step(system, domain, act)
+        self.tables.step(alloc, system, domain, act)
     }
 
     /// The first choice of a domain: resumes come before takes, takes before goes. `None` where it

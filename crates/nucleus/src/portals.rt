@@ -3,49 +3,16 @@ ghost use Rattle.std.specs.Prelude.{◌≡◌, length};
 ghost use Rattle.jx_base.specs.declared.act.Act.TheVariants.{Bind, Export, Lookup};
 ghost use Rattle.domain_flags.specs.FlagLists.{IsDomain};
 ghost use Rattle.domain_table.specs.DomainLists.{IsLive, IsThreadCount};
-ghost use Rattle.journal.specs.Journals.{HasRoomFor};
 ghost use Rattle.portal_table.specs.ServiceLists.{export_reply};
-ghost use Rattle.table_threads.specs.CallChanges.{entry};
-ghost use Rattle.nucleus.specs.Inner.{IsPermittedIn, state_of, with_put};
-ghost use Rattle.nucleus.specs.Portals.{IsPortalReply, with_service};
+ghost use Rattle.nucleus.specs.Inner.{IsPermittedIn, state_of};
+ghost use Rattle.nucleus.specs.Portals.{with_service};
 ghost use Rattle.nucleus.specs.Stepping.{IsStepped};
-ghost use Rattle.nucleus.specs.declared.step.Step.TheVariants.{Replied};
 
 use crate::step::Step;
 use crate::tables::Tables;
-use jx_base::{Act, ClassId, DomainId, Entry, Reply, ServiceId, System, Text, ThreadId};
-
-// The same reply once more.
-fn repeated(reply: &Reply) -> Reply
-    requires { IsPortalReply reply.now }
-    ensures { result ≡ reply.now }
-{
-    match reply {
-        Reply::Service(service, iface) => Reply::Service(*service, *iface),
-        Reply::Refused(refusal) => Reply::Refused(*refusal),
-        Reply::NoName => Reply::NoName,
-        _ => Reply::Done,
-    }
-}
+use jx_base::{Act, ClassId, DomainId, Reply, ServiceId, System, Text, ThreadId};
 
 impl Tables {
-    // Puts the entry of the act behind the others, and replies.
-    fn put(&mut self, domain: DomainId, thread: ThreadId, act: Act, reply: Reply) -> Step
-        requires room { HasRoomFor self.old.journal (entry domain.0 thread.0 act reply) }
-        requires reply { IsPortalReply reply }
-        ensures after { self.new ≡ with_put self.old (entry domain.0 thread.0 act reply) }
-        ensures step { result ≡ Replied thread reply }
-    {
-        let answer = repeated(&reply);
-        self.journal.push(Entry {
-            domain,
-            thread,
-            act,
-            reply,
-        });
-        Step::Replied(thread, answer)
-    }
-
     // Makes a service of a live domain, for which so many threads of it are idle.
     fn make_service(&mut self, domain: DomainId, iface: ClassId, threads: u8) -> Reply
         requires domain { IsDomain domain.0 }

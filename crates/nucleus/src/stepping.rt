@@ -9,6 +9,7 @@ ghost use Rattle.nucleus.specs.Stepping.{IsOver, IsStepped, MayCome};
 use crate::step::{Ending, Step};
 use crate::tables::Tables;
 use jx_base::{Act, DomainId, Reason, System, ThreadId, ThreadState, Why};
+use std::alloc::Global;
 
 #[tactic(auto, unfolding(jx_model::specs::Permits::is_halt))]
 fn is_halt(act: &Act) -> bool
@@ -65,7 +66,14 @@ impl Tables {
     }
 
     // Enters a permitted act.
-    fn enter(&mut self, system: &System, domain: DomainId, thread: ThreadId, act: Act) -> Step
+    fn enter(
+        &mut self,
+        alloc: Global,
+        system: &System,
+        domain: DomainId,
+        thread: ThreadId,
+        act: Act,
+    ) -> Step
         requires { IsPermittedIn system.now self.old domain.0 thread.0 act }
         ensures { IsStepped system.now (state_of self.old) (state_of self.new) domain.0 act result }
     {
@@ -82,6 +90,19 @@ impl Tables {
             }
             Act::Bind { name, service } => self.enter_bind(system, domain, thread, name, service),
             Act::Lookup { name } => self.enter_lookup(system, domain, thread, name),
+            Act::Call {
+                service,
+                method,
+                parcel,
+            } => self.enter_call(system, domain, thread, service, method, parcel),
+            Act::Take(call) => self.enter_take(alloc, system, domain, thread, call),
+            Act::Return { call, parcel } => {
+                self.enter_return(system, domain, thread, call, parcel)
+            }
+            Act::Throw { call, parcel } => {
+                self.enter_throw(system, domain, thread, call, parcel)
+            }
+            Act::Resume(call) => self.enter_resume(alloc, system, domain, thread, call),
             Act::Go(number) => {
                 let state = self.resumed(domain, thread);
                 self.enter_thread(system, domain, thread, Act::Go(number), state)
@@ -98,7 +119,7 @@ impl Tables {
     }
 
     // A step where nothing has ended.
-    fn step_going(&mut self, system: &System, domain: DomainId, act: Act) -> Step
+    fn step_going(&mut self, alloc: Global, system: &System, domain: DomainId, act: Act) -> Step
         requires tables { IsOf system.now self.old }
         requires act { MayCome system.now (past_in self.old) domain.0 act }
         requires going { Permits.is_over (past_in self.old) ≡ false }
@@ -109,20 +130,20 @@ impl Tables {
             return Step::Full(self.journal.words());
         }
         match self.permit(system, domain, &act) {
-            Ok(thread) => self.enter(system, domain, thread, act),
+            Ok(thread) => self.enter(alloc, system, domain, thread, act),
             Err(why) => Step::NotNow(why),
         }
     }
 
     /// A step: what `Nucleus::step` says.
-    pub fn step(&mut self, system: &System, domain: DomainId, act: Act) -> Step
+    pub fn step(&mut self, alloc: Global, system: &System, domain: DomainId, act: Act) -> Step
         requires tables { IsOf system.now self.old }
         requires act { MayCome system.now (past_in self.old) domain.0 act }
         ensures { IsStepped system.now (state_of self.old) (state_of self.new) domain.0 act result }
     {
         match self.ending(system, domain) {
             Some(ending) => Step::Over(ending),
-            None => self.step_going(system, domain, act),
+            None => self.step_going(alloc, system, domain, act),
         }
     }
 }

@@ -15,7 +15,7 @@ use Rattle.jx_model.specs.SingleWorker.{Pick, PicksEach, pick}
 use Rattle.supported_acts.specs.SupportedActs.{IsSupported}
 use Rattle.jx_model.specs.WhyNot.{CanBeAsked}
 use Rattle.nucleus.specs.NucleusStates.{IsNucleusOf, NucleusState}
-use Rattle.nucleus.specs.Stepping.{IsEntered, IsStepped}
+use Rattle.nucleus.specs.Stepping.{IsEntered, IsStepped, TakesMemory}
 use Rattle.nucleus.specs.declared.step.Step.{Step}
 use Rattle.nucleus.specs.declared.step.Step.TheVariants as step
 use Rattle.supported_acts.specs.SupportedActs.{AreSupported}
@@ -62,21 +62,21 @@ unfolding is_birth
 no_birth d t a r n b = cc
 
 -- so one of the two answers comes
-pub is_entered : (s : System) (old new : NucleusState) (d k : ℕ) (a : Act) (answer : Step) → IsNucleusOf s old → CanBeAsked s old.kept.past d a → acting_thread s old.kept.past d a ≡ Some k →
+pub is_entered : (s : System) (old new : NucleusState) (d k : ℕ) (a : Act) (answer : Step) → IsNucleusOf s old → CanBeAsked s old.kept.past d a → acting_thread s old.kept.past d a ≡ Some k → (TakesMemory a → ⊥) →
     ((t : ThreadId) (r : Reply) → answer ≡ step.Replied t r → ⊥) → ((t : ThreadId) (r : Reply) (j : DomainId) → answer ≡ step.Born t r j → ⊥) → IsStepped s old new d a answer → ⊥
-is_entered s old new d k a (step.Replied t r) z q p n b h = n t r refl
-is_entered s old new d k a (step.Born t r j) z q p n b h = b t r j refl
-is_entered s old new d k a (step.Over x) z q p n b h = never_refused s old.kept.past d k a (step.Over x) z.stands.admitted q p h.1
-is_entered s old new d k a (step.Full x) z q p n b h = never_refused s old.kept.past d k a (step.Full x) z.stands.admitted q p h.1
-is_entered s old new d k a (step.NotNow x) z q p n b h = never_refused s old.kept.past d k a (step.NotNow x) z.stands.admitted q p h.1
-is_entered s old new d k a (step.Busy x) z q p n b h = h.1
-is_entered s old new d k a step.OutOfMemory z q p n b h = h.1
+is_entered s old new d k a (step.Replied t r) z q p w n b h = n t r refl
+is_entered s old new d k a (step.Born t r j) z q p w n b h = b t r j refl
+is_entered s old new d k a (step.Over x) z q p w n b h = never_refused s old.kept.past d k a (step.Over x) z.stands.admitted q p w h.1
+is_entered s old new d k a (step.Full x) z q p w n b h = never_refused s old.kept.past d k a (step.Full x) z.stands.admitted q p w h.1
+is_entered s old new d k a (step.NotNow x) z q p w n b h = never_refused s old.kept.past d k a (step.NotNow x) z.stands.admitted q p w h.1
+is_entered s old new d k a (step.Busy x) z q p w n b h = h.1
+is_entered s old new d k a step.OutOfMemory z q p w n b h = w h.1
 
 -- and of an act that makes no domain, the first
-pub is_replied : (s : System) (old new : NucleusState) (d k : ℕ) (a : Act) (answer : Step) → IsNucleusOf s old → CanBeAsked s old.kept.past d a → acting_thread s old.kept.past d a ≡ Some k →
+pub is_replied : (s : System) (old new : NucleusState) (d k : ℕ) (a : Act) (answer : Step) → IsNucleusOf s old → CanBeAsked s old.kept.past d a → acting_thread s old.kept.past d a ≡ Some k → (TakesMemory a → ⊥) →
     ((r : Reply) → makes_domain a r ≡ false) → ((t : ThreadId) (r : Reply) → answer ≡ step.Replied t r → ⊥) → IsStepped s old new d a answer → ⊥
-is_replied s old new d k a answer z q p m n h =
-    is_entered s old new d k a answer z q p n (λ t r j e. no_birth d t.0 a r (m r) (subst (IsStepped s old new d a) e h).2) h
+is_replied s old new d k a answer z q p w m n h =
+    is_entered s old new d k a answer z q p w n (λ t r j e. no_birth d t.0 a r (m r) (subst (IsStepped s old new d a) e h).2) h
 
 -- Domain Zero may be asked for what it may do
 pub zero_asked : (s : System) (past : Past) (a : Act) → is_over past ≡ false → zero_may_now s past a ≡ true → CanBeAsked s past 0 a

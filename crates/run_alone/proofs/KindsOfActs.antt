@@ -8,6 +8,7 @@ use Rattle.jx_base.specs.Histories.{Past}
 use Rattle.jx_model.specs.Domains.{makes_domain}
 use Rattle.jx_model.specs.Permits.{is_ending, is_zero_act}
 use Rattle.jx_model.specs.WellMade.{IsWellMade}
+use Rattle.nucleus.specs.Stepping.{TakesMemory}
 use Rattle.supported_acts.specs.SupportedActs.{IsSupported, is_supported}
 
 -- ---- an act of a domain
@@ -24,6 +25,13 @@ unfolding is_zero_act is_supported makes_domain
 makes_none (act.Create t) r h u = cc
 makes_none (act.Spawn name) r h u = cc
 makes_none _ r h u = refl
+
+-- an act with code takes no memory of the nucleus
+pub takes_none : (a : Act) → IsSupported a → TakesMemory a → ⊥
+unfolding is_supported
+takes_none (act.Take c) u m = cc
+takes_none (act.Resume c) u m = cc
+takes_none _ u m = m
 
 -- ---- an act that ends the run
 

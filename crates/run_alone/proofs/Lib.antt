@@ -1,4 +1,5 @@
 pub mod Picking
+pub mod FirstChoices
 pub mod Permitting
 pub mod Actors
 pub mod Stepped

@@ -39,7 +39,8 @@ use Rattle.supported_acts.specs.SupportedActs.{AreSupported}
 use Rattle.table_threads.proofs.Records.{is_that, not_that}
 use Rattle.thread_laws.proofs.Agreement.{agreement_stands}
 use Rattle.machine_laws.proofs.CodeActs.{IsCodeAct, not_zeros}
-use Rattle.run_alone.proofs.Picking.{acts_live, choice_live, none_acts}
+use Rattle.run_alone.proofs.FirstChoices.{IsChosen, first_is_chosen}
+use Rattle.run_alone.proofs.Picking.{acts_live, none_acts}
 use Rattle.machine_laws.proofs.StepActs.{DoesOfCode, next_of}
 use Rattle.run_alone.specs.Workers.{HasRoom, IsTurnOf}
 
@@ -84,106 +85,6 @@ one_thread (e ∷ past) d h = ap2 (λ (xs ys : List ServiceId). xs ++ ys) (one_t
 pub runs_first : (past : Past) (d t : ℕ) → AreSupported past → running_thread past d ≡ Some t → t ≡ 0
 runs_first past d t h q = omega (arith, running_within past d t q, ap length (one_thread past d h))
 
--- ---- choices
-
--- where the first of several is found
-first_there : {A : Type 0} (f : A → Option Act) (xs : List A) (a : Act) → first_some f xs ≡ Some a → (x : A) × (f x ≡ Some a)
-unfolding first_some
-first_there f [] a h = cc
-first_there {A} f (x ∷ xs) a h = by (f x) refl h (first_there f xs a)
-  where
-    by : (o : Option Act) → f x ≡ o → (elim o as (λ _. Option Act) [ Some y ↦ Some y | None ↦ first_some f xs ]) ≡ Some a → (first_some f xs ≡ Some a → (x : A) × (f x ≡ Some a)) → (x : A) × (f x ≡ Some a)
-    by None q h again = again h
-    by (Some y) q h again = (x, q ∙ h)
-
--- the go of a thread that has yielded
-pub record IsGoOf (past : Past) (d : ℕ) (a : Act) : Type 0 where
-  pub thread : ThreadId
-  pub is : a ≡ act.Go thread
-  pub going : going_thread past d thread.0 ≡ Some thread.0
-
--- acts with code make no calls
-no_call : (a : Act) → IsSupported a → asked_by a ≡ None
-unfolding is_supported asked_by
-no_call (act.Call s m p) u = cc
-no_call _ u = refl
-
-no_calls : (past : Past) → AreSupported past → calls_made past ≡ 0
-unfolding is_call count_where
-no_calls [] u = refl
-no_calls (e ∷ past) u = count_same is_call e past (ap (λ (o : Option Asked). is_some o && is_some (queued_as e.reply)) (no_call e.act u.0)) ∙ no_calls past u.1
-
--- so nobody goes on after one
-no_answer : {A : Type 0} (past : Past) (c : ℕ) → AreSupported past → is_resumable past c ≡ true → A
-no_answer {A} past c u h = by (answer_of past c) refl (resumable_parts past c h).0
-  where
-    by : (o : Option Answer) → answer_of past c ≡ o → is_some o ≡ true → A
-    by None q h = cc
-    by (Some x) q h = let m = answered_made past c x q in absurd (omega (arith, m.0, m.1, no_calls past u))
-
-no_resume : {A : Type 0} (past : Past) (d t : ℕ) (a : Act) → AreSupported past → resume_at past d t ≡ Some a → A
-unfolding resume_at resume_in
-no_resume {A} past d t a u h = state (thread_state past d t) h
-  where
-    acts : (c : CallId) (b : Bool) → is_resumable past c.0 ≡ b → (if b then Some (act.Resume c) else None) ≡ Some a → A
-    acts c true q h = no_answer past c.0 u q
-    acts c false q h = cc
-
-    state : (o : Option ThreadState) → option_and_then (resume_in past) o ≡ Some a → A
-    state None h = cc
-    state (Some (thread.Waiting c)) h = acts c (is_resumable past c.0) refl h
-    state (Some thread.Running) h = cc
-    state (Some (thread.Serving c)) h = cc
-    state (Some (thread.Idle k)) h = cc
-    state (Some thread.Yielded) h = cc
-    state (Some thread.Over) h = cc
-
--- and no queue has a call
-no_head : (past : Past) (k : ℕ) → AreSupported past → queue_head past k ≡ None
-unfolding queue_head queued_calls waiting_calls up_to
-no_head past k u =
-    ap (λ (n : ℕ). slice_get (filter (λ c. is_number (service_of_call past c) k) (filter (is_queued past) (range_with_len 1 n))) 0) (no_calls past u)
-
-no_take : {A : Type 0} (past : Past) (d t : ℕ) (a : Act) → AreSupported past → take_at past d t ≡ Some a → A
-unfolding take_at
-no_take {A} past d t a u h = by (is_some (idle_thread past d t)) (queue_head past t) (no_head past t u) h
-  where
-    by : (b : Bool) (o : Option ℕ) → o ≡ None → (if b then option_map (λ c. act.Take (record { 0 = c })) o else None) ≡ Some a → A
-    by true (Some c) q h = cc
-    by true None q h = cc
-    by false o q h = cc
-
-going_same : (past : Past) (d t k : ℕ) → going_thread past d t ≡ Some k → k ≡ t
-unfolding going_thread
-going_same past d t k q = let z = (chosen (passes is_yielded (thread_state past d t)) k (Some t) q).1 in let w : t ≡ k = cc in sym w
-
-go_there : (past : Past) (d t : ℕ) (a : Act) → go_at past d t ≡ Some a → IsGoOf past d a
-unfolding go_at
-go_there past d t a h = by (going_thread past d t) refl h
-  where
-    by : (o : Option ℕ) → going_thread past d t ≡ o → option_map (λ k. act.Go (record { 0 = k })) o ≡ Some a → IsGoOf past d a
-    by None q h = cc
-    by (Some k) q h =
-        let w : act.Go (record { 0 = k }) ≡ a = cc in
-        record { thread = record { 0 = k }; is = sym w; going = ap (going_thread past d) (going_same past d t k q) ∙ q }
-
--- where all acts have code, a first choice is a go
-pub choice_goes : (past : Past) (d : ℕ) (a : Act) → first_choice past d ≡ Some a → AreSupported past → IsGoOf past d a
-unfolding first_of_choices
-choice_goes past d a h u = resumes (first_some (resume_at past d) (threads_of past d)) refl (choice_live past d a h).2
-  where
-    gos : first_some (go_at past d) (threads_of past d) ≡ Some a → IsGoOf past d a
-    gos q = let x = first_there (go_at past d) (threads_of past d) a q in go_there past d x.0 a x.1
-
-    takes : (o : Option Act) → first_some (λ (s : ServiceId). take_at past d s.0) (service_threads past d) ≡ o → option_or o (first_some (go_at past d) (threads_of past d)) ≡ Some a → IsGoOf past d a
-    takes None q h = gos h
-    takes (Some b) q h = let x = first_there (λ (s : ServiceId). take_at past d s.0) (service_threads past d) a (q ∙ h) in no_take past d x.0.0 a u x.1
-
-    resumes : (o : Option Act) → first_some (resume_at past d) (threads_of past d) ≡ o →
-        option_or o (option_or (first_some (λ (s : ServiceId). take_at past d s.0) (service_threads past d)) (first_some (go_at past d) (threads_of past d))) ≡ Some a → IsGoOf past d a
-    resumes None q h = takes (first_some (λ (s : ServiceId). take_at past d s.0) (service_threads past d)) refl h
-    resumes (Some b) q h = let x = first_there (resume_at past d) (threads_of past d) a (q ∙ h) in no_resume past d x.0 a u x.1
-
 -- ---- what the running thread may perform
 
 performs : (past : Past) (d t : ℕ) (a : Act) → IsSupported a → IsCodeAct a → t ≡ 0 → may_perform past d t a ≡ true
@@ -216,10 +117,6 @@ domain_acts s past d t a o m f h =
     ap3 (λ (x y w : Bool). if x then None else if y then (if zero_may_now s past a then Some 0 else None) else if w then None else domain_thread past d a) o (not_that d 0 (λ q. omega (arith, q, m)))
     (ap2 (λ (x : Bool) (o : Option ℕ). x || is_some o) f.room f.booted)
     ∙ h
-
-go_acts : (past : Past) (d : ℕ) (t : ThreadId) → going_thread past d t.0 ≡ Some t.0 → choice_thread past d (act.Go t) ≡ Some t.0
-unfolding choice_thread
-go_acts past d t h = h
 
 -- ---- the code of a domain
 
@@ -298,18 +195,11 @@ has_choice {A} s past d t z h w n = elim (runs_or_not (running_thread past d)) [
     none (Some k) c p q h = cc
     none None (Some a) p q h = cc
 
--- the entry of a go is well made
-pub go_well_made : (past : Past) (d : ℕ) (t : ThreadId) → AreSupported past → going_thread past d t.0 ≡ Some t.0 → t.0 < 2 ^ 32
-unfolding going_thread
-go_well_made past d t u h =
-    let y = passed is_yielded (thread_state past d t.0) (chosen (passes is_yielded (thread_state past d t.0)) t.0 (Some t.0) h).0 in
-    omega (arith, state_within past d t.0 y.0 y.1, ap length (one_thread past d u))
-
 module _ (s : System) (past : Past) (d t : ℕ) (a : Act) (z : HasCode s past d t) (able : can_act past d ≡ true) (act : act_of_turn s past d ≡ Some a) (supported : IsSupported a) (code : AreSupported past) where
-  -- the act of a turn is the code's, and a thread runs, or a go while none runs
-  cases : ((k : ℕ) × (running_thread past d ≡ Some k) × (next_act s t (own_entries past d) ≡ Does a)) ⊎ ((running_thread past d ≡ None) × (next_act s t (own_entries past d) ≡ Idle) × IsGoOf past d a)
+  -- the act of a turn is the code's, and a thread runs, or a choice while none runs
+  cases : ((k : ℕ) × (running_thread past d ≡ Some k) × (next_act s t (own_entries past d) ≡ Does a)) ⊎ ((running_thread past d ≡ None) × (next_act s t (own_entries past d) ≡ Idle) × IsChosen past d a)
   cases = elim (runs_or_not (running_thread past d)) [
-    | inl q ↦ let w = idles s past d t z (acts_live past d able) q in inr (q, w, choice_goes past d a (sym (turn_idles s past d t z.template w) ∙ act) code)
+    | inl q ↦ let w = idles s past d t z (acts_live past d able) q in inr (q, w, first_is_chosen s past d a z.admitted (sym (turn_idles s past d t z.template w) ∙ act))
     | inr x ↦
         let y = works s past d t z (acts_live past d able) x.0 x.1 in
         let e : y.0 ≡ a = cc (turn_does s past d t z.template y.0 y.1) in inl (x.0, x.1, y.1 ∙ ap Does e)
@@ -317,10 +207,9 @@ module _ (s : System) (past : Past) (d t : ℕ) (a : Act) (z : HasCode s past d 
 
   -- it is the code's, or a choice where that does nothing
   pub turn_from : IsFrom (next_act s t (own_entries past d)) a
-  unfolding is_choice
   turn_from = elim cases [
     | inl x ↦ subst (λ (n : NextAct). IsFrom n a) (sym x.2) refl
-    | inr x ↦ subst (λ (n : NextAct). IsFrom n a) (sym x.1) (subst (λ (b : Act). IsFrom Idle b) (sym x.2.is) refl)
+    | inr x ↦ subst (λ (n : NextAct). IsFrom n a) (sym x.1) x.2.choice
   ]
 
   -- it is permitted
@@ -331,17 +220,20 @@ module _ (s : System) (past : Past) (d t : ℕ) (a : Act) (z : HasCode s past d 
       domain_acts s past d x.0 a o z.made f (running_acts past d x.0 a x.1
           (performs past d x.0 a supported (subst DoesOfCode x.2 (next_of s t (own_entries past d))) (runs_first past d x.0 code x.1))),
     )
-    | inr x ↦ (
-      x.2.thread.0,
-      domain_acts s past d x.2.thread.0 a o z.made f (choice_acts past d x.2.thread.0 a x.0 (acts_live past d able)
-          (subst (λ (b : Act). choice_thread past d b ≡ Some x.2.thread.0) (sym x.2.is) (go_acts past d x.2.thread x.2.going))),
-    )
+    | inr x ↦ (x.2.thread, domain_acts s past d x.2.thread a o z.made f (choice_acts past d x.2.thread a x.0 (acts_live past d able) x.2.lets))
   ]
+
+-- a choice is none of Domain Zero's acts
+choice_not_zeros : (a : Act) → is_choice a ≡ true → is_zero_act a ≡ false
+unfolding is_choice is_zero_act
+choice_not_zeros (act.Create t) h = cc
+choice_not_zeros act.Quiet h = cc
+choice_not_zeros act.Halt h = cc
+choice_not_zeros _ h = refl
 
 -- an act of a turn is none of Domain Zero's
 pub turn_not_zeros : (s : System) (past : Past) (d t : ℕ) (a : Act) → HasCode s past d t → can_act past d ≡ true → act_of_turn s past d ≡ Some a → IsSupported a → AreSupported past → is_zero_act a ≡ false
-unfolding is_zero_act
 turn_not_zeros s past d t a z able act u code = elim (cases s past d t a z able act u code) [
   | inl x ↦ not_zeros a (subst DoesOfCode x.2 (next_of s t (own_entries past d)))
-  | inr x ↦ subst (λ (b : Act). is_zero_act b ≡ false) (sym x.2.is) refl
+  | inr x ↦ choice_not_zeros a x.2.choice
 ]

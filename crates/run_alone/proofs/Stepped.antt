@@ -16,7 +16,7 @@ use Rattle.jx_model.specs.Legal.{IsAdmittedPast}
 use Rattle.jx_model.specs.Permits.{acting_thread, is_ending, is_over}
 use Rattle.jx_model.specs.WhyNot.{CanBeAsked, why_not}
 use Rattle.jx_model.proofs.Reasons.{reasons_given}
-use Rattle.nucleus.specs.Stepping.{IsRefusal}
+use Rattle.nucleus.specs.Stepping.{IsRefusal, TakesMemory}
 use Rattle.nucleus.specs.declared.step.Ending.TheVariants as ending
 use Rattle.nucleus.specs.declared.step.Step.{Step}
 use Rattle.nucleus.specs.declared.step.Step.TheVariants as step
@@ -50,18 +50,18 @@ unended s past d a (inr l) = none (end_reason past d) (both (is_made past d) (is
 
 -- ---- a permitted act isn't refused
 
-pub never_refused : (s : System) (past : Past) (d r : ℕ) (a : Act) (answer : Step) → IsAdmittedPast s past → CanBeAsked s past d a → acting_thread s past d a ≡ Some r → IsRefusal s past d a answer → ⊥
-never_refused s past d r a (step.Over ending.Run) h q p i = cc (q.going, i)
-never_refused s past d r a (step.Over (ending.Domain why)) h q p i = cc (unended s past d h q.actor, i.1)
-never_refused s past d r a (step.Full words) h q p i = elim q.room [ inl f ↦ cc (f, i.full) | inr k ↦ cc (k, i.no_halt) ]
-never_refused s past d r a (step.NotNow why) h q p i =
+pub never_refused : (s : System) (past : Past) (d r : ℕ) (a : Act) (answer : Step) → IsAdmittedPast s past → CanBeAsked s past d a → acting_thread s past d a ≡ Some r → (TakesMemory a → ⊥) → IsRefusal s past d a answer → ⊥
+never_refused s past d r a (step.Over ending.Run) h q p w i = cc (q.going, i)
+never_refused s past d r a (step.Over (ending.Domain why)) h q p w i = cc (unended s past d h q.actor, i.1)
+never_refused s past d r a (step.Full words) h q p w i = elim q.room [ inl f ↦ cc (f, i.full) | inr k ↦ cc (k, i.no_halt) ]
+never_refused s past d r a (step.NotNow why) h q p w i =
     let e : is_some (acting_thread s past d a) ≡ is_none (why_not s past d a) = reasons_given s past d a i.asked in
     let x : true ≡ is_none (why_not s past d a) = ap is_some (sym p) ∙ e in
     let y : is_none (why_not s past d a) ≡ false = ap is_none i.reason in cc
-never_refused s past d r a (step.Busy pass) h q p i = i
-never_refused s past d r a step.OutOfMemory h q p i = i
-never_refused s past d r a (step.Replied t x) h q p i = i
-never_refused s past d r a (step.Born t x j) h q p i = i
+never_refused s past d r a (step.Busy pass) h q p w i = i
+never_refused s past d r a step.OutOfMemory h q p w i = w i
+never_refused s past d r a (step.Replied t x) h q p w i = i
+never_refused s past d r a (step.Born t x j) h q p w i = i
 
 -- ---- the past with the entry
 

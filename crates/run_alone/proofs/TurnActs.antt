@@ -29,7 +29,9 @@ use Rattle.thread_laws.proofs.OwnEntries.{own_more}
 use Rattle.run_alone.proofs.Actors.{actor_there, put, took}
 use Rattle.run_alone.proofs.Entered.{has_gone_on, is_legal}
 use Rattle.run_alone.proofs.KindsOfActs.{ends_none}
-use Rattle.run_alone.proofs.Permitting.{HasCode, choice_goes, go_well_made, has_choice, turn_does, turn_from, turn_idles, turn_not_zeros, turn_permitted}
+use Rattle.jx_model.specs.Journal.{is_full}
+use Rattle.run_alone.proofs.FirstChoices.{chosen_well_made, first_is_chosen, journal_small}
+use Rattle.run_alone.proofs.Permitting.{HasCode, has_choice, turn_does, turn_from, turn_idles, turn_not_zeros, turn_permitted}
 use Rattle.run_alone.proofs.Picking.{acts_live, acts_made, picks_act, turn_acts}
 use Rattle.run_alone.specs.Workers.{AreActorsOf, FindsAct, HasGoneOn, IsActorOf, IsGoing, IsTurn, IsTurnOf, SaysNext, past_in}
 use Rattle.run_alone.specs.declared.actor.Actor.{Actor}
@@ -107,16 +109,16 @@ module _ (s : System) (w : Worker) (h : IsGoing s w) (d : ℕ) (able : can_act (
       record { going = z.going; same = z.same; act = turn_does s (past_in w) d x.0.template x.2.template a i.does; well_made = i.well_made (past_in w) d life_of }
 
   -- or its first choice
-  pub finds_choice : (v : Worker) (a : Act) → SaysNext s w v d next.Idle → Some a ≡ first_choice (past_in v) d → FindsAct s w v d a
-  finds_choice v a z c =
+  pub finds_choice : (v : Worker) (a : Act) → is_full s (past_in w) ≡ false → SaysNext s w v d next.Idle → Some a ≡ first_choice (past_in v) d → FindsAct s w v d a
+  finds_choice v a f z c =
       let x = actor_there s (past_in w) w.actors.items h.worker.actors d made.low made.high in
       let q : first_choice (past_in w) d ≡ Some a = ap (λ (n : NucleusState). first_choice n.kept.past d) (sym z.same) ∙ sym c in
-      let g = choice_goes (past_in w) d a q h.worker.supported in
+      let g = first_is_chosen s (past_in w) d a h.worker.nucleus.stands.admitted q in
       record {
         going = z.going;
         same = z.same;
         act = turn_idles s (past_in w) d x.0.template x.2.template (z.next x.0.template x.2.template) ∙ q;
-        well_made = subst (IsWellMade s (past_in w)) (sym g.is) (go_well_made (past_in w) d g.thread h.worker.supported g.going);
+        well_made = chosen_well_made s (past_in w) d a g (journal_small s h.worker.nucleus.plan) f;
       }
 
   -- which it has

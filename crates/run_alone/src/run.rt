@@ -26,7 +26,7 @@ impl Worker {
                 Ok(true)
             }
             None => {
-                self.rest(system);
+                self.rest(alloc, system);
                 Ok(false)
             }
         }
@@ -39,7 +39,7 @@ impl Worker {
         ensures stop { IfErr result (IsStop system.now) }
     {
         if self.nucleus.is_full(system) {
-            self.halt(system);
+            self.halt(alloc, system);
             return Ok(false);
         }
         match self.nucleus.next_boot(system) {

@@ -1,5 +1,6 @@
 //! The turn of a domain.
-ghost use Rattle.std.specs.Prelude.{◌≡◌, IfErr, IfOk, Some, true};
+ghost use Rattle.std.specs.Prelude.{◌≡◌, IfErr, IfOk, Some, false, true};
+ghost use Rattle.jx_model.specs.Journal.{is_full};
 ghost use Rattle.jx_model.specs.Permits.{can_act};
 ghost use Rattle.supported_acts.specs.SupportedActs.{IsSupported};
 ghost use Rattle.run_alone.specs.RunsAlone.{IsStop};
@@ -39,6 +40,7 @@ impl Worker {
     ) -> Result<Act, OutOfMemory>
         requires worker { IsGoing system.now self.old }
         requires live { can_act (past_in self.old) domain.0 ≡ true }
+        requires room { is_full system.now (past_in self.old) ≡ false }
         ensures { IfOk result (FindsAct system.now self.old self.new domain.0) }
     {
         match self.next_of(alloc, system, domain)? {
@@ -67,7 +69,7 @@ impl Worker {
         requires supported { IsSupported act }
         ensures { IfOk result (λ _. HasGoneOn system.now self.old self.new) }
     {
-        match self.nucleus.step(system, domain, act) {
+        match self.nucleus.step(alloc, system, domain, act) {
             Step::Replied(..) => {}
             _ => {
                 // The act is permitted.

@@ -13,12 +13,12 @@ use std::alloc::Global;
 
 impl Worker {
     // Enters the act that ends the run.
-    fn end_run(&mut self, system: &System, act: Act)
+    fn end_run(&mut self, alloc: Global, system: &System, act: Act)
         requires worker { IsGoing system.now self.old }
         requires last { IsLast system.now (past_in self.old) act }
         ensures { IsDone system.now self.new }
     {
-        match self.nucleus.step(system, DomainId(0), act) {
+        match self.nucleus.step(alloc, system, DomainId(0), act) {
             Step::Replied(..) => {}
             _ => {
                 // The act is permitted.
@@ -28,21 +28,21 @@ impl Worker {
     }
 
     /// Ends the run, whose journal is full.
-    pub fn halt(&mut self, system: &System)
+    pub fn halt(&mut self, alloc: Global, system: &System)
         requires worker { IsGoing system.now self.old }
         requires full { is_full system.now (past_in self.old) ≡ true }
         ensures { IsDone system.now self.new }
     {
-        self.end_run(system, Act::Halt);
+        self.end_run(alloc, system, Act::Halt);
     }
 
     /// Ends the run, in which nobody can act.
-    pub fn rest(&mut self, system: &System)
+    pub fn rest(&mut self, alloc: Global, system: &System)
         requires worker { IsGoing system.now self.old }
         requires turn { IsTurnOf system.now (past_in self.old) None }
         ensures { IsDone system.now self.new }
     {
-        self.end_run(system, Act::Quiet);
+        self.end_run(alloc, system, Act::Quiet);
     }
 
     /// Creates the next domain of the start, or is refused it.
@@ -59,7 +59,7 @@ impl Worker {
     {
         match self
             .nucleus
-            .step(system, DomainId(0), Act::Create(template))
+            .step(alloc, system, DomainId(0), Act::Create(template))
         {
             Step::Born(..) => {
                 self.actors.push(first_actor(alloc, system, template)?)?;

@@ -1,4 +1,4 @@
-use Rattle.std.proofs.Common.{◌≡◌, ◌∙◌, sym, ap, Option, ℕ, None, is_none, Bool, ◌&&◌, if◌then◌else◌}
+use Rattle.std.proofs.Common.{◌∙◌, sym, ap, Option, ℕ, None, is_none, Bool, ◌&&◌, if◌then◌else◌}
 use Rattle.std.specs.Option.{option_map}
 use Rattle.jx_base.specs.declared.ids.ThreadId.{ThreadId}
 use Rattle.jx_base.proofs.BasicLaws.{ap2}

@@ -1,8 +1,6 @@
-use Rattle.std.proofs.Common.{◌≡◌, ◌≤◌, ◌+◌, ◌∙◌, refl, sym, ap, subst, ℕ, List, length, map, arith}
-use Rattle.jx_model.specs.Tables.{ServiceRecord}
+use Rattle.std.proofs.Common.{◌≡◌, ◌∙◌, sym, ap, ℕ, map, arith}
 use Rattle.call_table.specs.CallLists.{CallsState, ended_for}
-use Rattle.call_table.specs.declared.calls.Call.{Call}
-use Rattle.nucleus.specs.Ends.{lost_call, with_calls}
+use Rattle.nucleus.specs.Ends.{with_calls}
 use Rattle.table_steps.specs.Steps.{owns}
 use Rattle.nucleus.specs.declared.tables.Tables.{Tables}
 use Rattle.nucleus.proofs.OwnedServices.{lost_all, lost_below, lost_more, lost_none, lost_same}

@@ -1,4 +1,4 @@
-use Rattle.std.proofs.Common.{◌≡◌, ◌≤◌, ◌∙◌, ap, subst, sym, length, map, arith}
+use Rattle.std.proofs.Common.{◌≤◌, ◌∙◌, ap, subst, sym, length, map}
 use Rattle.nucleus.specs.Ends.{lost_call, with_calls, with_tables_ended}
 use Rattle.nucleus.specs.declared.tables.Tables.{Tables}
 use Rattle.nucleus.proofs.OwnedServices.{few_services, lost_after}

@@ -53,7 +53,7 @@ pub enter_plain-requires : goal.enter_plain-requires
 enter_plain-requires c =
     record {
       permitted = c.requires;
-      plain = plain_left c.args.act c.requires.may_come.has_entry c.in_default.not-Export c.in_default.not-Bind c.in_default.not-Lookup c.in_default.not-Create c.in_default.not-Quiet c.in_default.not-Halt c.in_default.not-Exit c.in_default.not-End c.in_default.not-Go c.in_default.not-Yield c.in_default.not-EndThread;
+      plain = plain_left c.args.act c.requires.may_come.has_entry c.in_default.not-Export c.in_default.not-Bind c.in_default.not-Lookup c.in_default.not-Call c.in_default.not-Take c.in_default.not-Return c.in_default.not-Throw c.in_default.not-Resume c.in_default.not-Create c.in_default.not-Quiet c.in_default.not-Halt c.in_default.not-Exit c.in_default.not-End c.in_default.not-Go c.in_default.not-Yield c.in_default.not-EndThread;
     }
 
 pub returns-in-Create : goal.returns-in-Create

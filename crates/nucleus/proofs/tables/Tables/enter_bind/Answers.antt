@@ -2,7 +2,8 @@ use Rattle.std.proofs.Common.{◌∙◌, ap, subst, sym}
 use Rattle.jx_base.specs.declared.act.Act.{Act}
 use Rattle.jx_base.specs.declared.act.Act.TheVariants as act
 use Rattle.jx_base.specs.declared.act.Reply.{Reply}
-use Rattle.nucleus.proofs.PortalActs.{bind_answers, bind_entered, name_fits, no_parcel, replied}
+use Rattle.nucleus.proofs.PortalActs.{bind_answers, bind_entered, name_fits, no_parcel}
+use Rattle.nucleus.proofs.Entered.{replied}
 use Rattle.nucleus.proofs.Room.{has_room}
 use Rattle.nucleus.specs.Inner.{with_put}
 use Rattle.nucleus.specs.Portals.{IsPortalReply, with_services}

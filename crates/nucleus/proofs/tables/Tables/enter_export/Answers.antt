@@ -5,7 +5,8 @@ use Rattle.jx_base.specs.declared.act.Reply.{Reply}
 use Rattle.journal.specs.Journals.{HasRoomFor, JournalState}
 use Rattle.nucleus.proofs.EndedTables.{live_record}
 use Rattle.nucleus.proofs.DomainReads.{live_numbered}
-use Rattle.nucleus.proofs.PortalActs.{export_answers, export_entered, exporter_lives, no_parcel, replied}
+use Rattle.nucleus.proofs.PortalActs.{export_answers, export_entered, exporter_lives, no_parcel}
+use Rattle.nucleus.proofs.Entered.{replied}
 use Rattle.nucleus.proofs.Room.{has_room}
 use Rattle.nucleus.proofs.ServicesMade.{keeps_journal}
 use Rattle.nucleus.specs.Inner.{past_in, with_put}

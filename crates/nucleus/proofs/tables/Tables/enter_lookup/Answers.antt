@@ -3,7 +3,8 @@ use Rattle.jx_base.specs.declared.act.Act.{Act}
 use Rattle.jx_base.specs.declared.act.Act.TheVariants as act
 use Rattle.jx_base.specs.declared.act.Reply.{Reply}
 use Rattle.nucleus.proofs.DomainReads.{live_numbered}
-use Rattle.nucleus.proofs.PortalActs.{lookup_answers, lookup_entered, no_parcel, replied, seeker_lives}
+use Rattle.nucleus.proofs.PortalActs.{lookup_answers, lookup_entered, no_parcel, seeker_lives}
+use Rattle.nucleus.proofs.Entered.{replied}
 use Rattle.nucleus.proofs.Room.{has_room}
 use Rattle.nucleus.specs.Inner.{past_in, with_put}
 use Rattle.nucleus.specs.Portals.{IsPortalReply, with_services}

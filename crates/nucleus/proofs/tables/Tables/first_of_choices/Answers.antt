@@ -1,4 +1,4 @@
-use Rattle.std.proofs.Common.{◌≡◌, ◌∙◌, sym, ap, ℕ, Option}
+use Rattle.std.proofs.Common.{◌∙◌, sym, ap, ℕ, Option}
 use Rattle.std.specs.Option.{option_or}
 use Rattle.jx_base.proofs.BasicLaws.{ap2}
 use Rattle.jx_base.specs.declared.act.Act.{Act}

@@ -1,4 +1,4 @@
-use Rattle.std.proofs.Common.{◌≡◌, ◌+◌, ◌-◌, ◌≤◌, length}
+use Rattle.std.proofs.Common.{◌≡◌, ◌-◌, ◌≤◌}
 use Rattle.std.specs.List.{range_with_len}
 use Rattle.jx_base.specs.Basics.{first_some}
 use Rattle.jx_model.specs.Permits.{resume_at}

@@ -1,5 +1,4 @@
-use Rattle.std.proofs.Common.{◌≡◌, ◌∙◌, ◌+◌, ◌-◌, ◌≤◌, refl, sym, ap, ℕ, List, arith, drop, length, is_some, Option, Some, slice_get}
-use Rattle.std.proofs.lemmas.Option.{slice_get_read}
+use Rattle.std.proofs.Common.{◌≡◌, ◌∙◌, ◌+◌, ◌-◌, refl, sym, ap, ℕ, List, arith, drop, is_some, Some, slice_get}
 use Rattle.jx_base.specs.Basics.{first_some}
 use Rattle.jx_base.specs.declared.ids.ServiceId.{ServiceId}
 use Rattle.jx_model.specs.Permits.{take_at}

@@ -1,4 +1,4 @@
-use Rattle.std.proofs.Common.{◌≡◌, ◌+◌, ◌-◌, ◌≤◌, drop, length}
+use Rattle.std.proofs.Common.{◌≡◌, ◌-◌, ◌≤◌, drop}
 use Rattle.jx_base.specs.Basics.{first_some}
 use Rattle.jx_model.specs.Permits.{take_at}
 use Rattle.jx_model.specs.Threads.{service_threads}

@@ -1,4 +1,4 @@
-use Rattle.std.proofs.Common.{◌≡◌, ◌∙◌, ◌&&◌, ap, sym, Bool}
+use Rattle.std.proofs.Common.{◌∙◌, ◌&&◌, ap, sym, Bool}
 use Rattle.jx_base.specs.Basics.{passes}
 use Rattle.call_table.specs.declared.calls.Call.{Call}
 use Rattle.nucleus.specs.declared.tables.Tables.{Tables}

@@ -1,8 +1,6 @@
-use Rattle.std.proofs.Common.{◌≡◌, ◌∙◌, sym, ap, Some, Option}
+use Rattle.std.proofs.Common.{ap}
 use Rattle.std.specs.Option.{option_map}
-use Rattle.jx_base.specs.declared.ids.ClassId.{ClassId}
-use Rattle.jx_base.specs.declared.ids.DomainId.{DomainId}
-use Rattle.nucleus.proofs.OwnedServices.{Told, told, unowned}
+use Rattle.nucleus.proofs.OwnedServices.{told, unowned}
 use Rattle.nucleus.proofs.tables.Tables.owns.Goals as goal
 
 pub returns-in-Some : goal.returns-in-Some

@@ -14,7 +14,7 @@ use Rattle.nucleus.specs.Inner.{past_in}
 use Rattle.nucleus.proofs.tables.Tables.permit_domain.Goals as goal
 
 pub returns-in-Some-clause-may : goal.returns-in-Some-clause-may
-returns-in-Some-clause-may c = by c.permit_running.result c.permit_running.ensures.same (c.permit_running.ensures.may past d)
+returns-in-Some-clause-may c = by c.permit_running.result c.permit_running.ensures.same c.permit_running.ensures.may
   where
     past : Past
     past = past_in c.args.self.now
@@ -33,7 +33,7 @@ returns-in-Some-clause-may c = by c.permit_running.result c.permit_running.ensur
     by (Err w) q m = tt
 
 pub returns-in-Some-clause-why : goal.returns-in-Some-clause-why
-returns-in-Some-clause-why c = by c.permit_running.result (c.permit_running.ensures.why past d)
+returns-in-Some-clause-why c = by c.permit_running.result c.permit_running.ensures.why
   where
     past : Past
     past = past_in c.args.self.now

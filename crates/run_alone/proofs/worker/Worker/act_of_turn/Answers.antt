@@ -23,4 +23,4 @@ returns-in-End c =
 pub returns-in-Some : goal.returns-in-Some
 returns-in-Some c =
     let s = c.args.system.now in let w = c.args.self.now in let d = c.args.domain.0 in let v = c.next_of.new.self in
-    finds_choice s w c.requires.worker d c.requires.live v c.in-Some.act (subst (SaysNext s w v d) c.in-Idle.is c.in_ok-act.ensures) c.in-Some.ensures
+    finds_choice s w c.requires.worker d c.requires.live v c.in-Some.act c.requires.room (subst (SaysNext s w v d) c.in-Idle.is c.in_ok-act.ensures) c.in-Some.ensures

@@ -43,4 +43,4 @@ pub unreachable-requires : goal.unreachable-requires
 unreachable-requires c =
     let s = c.args.system.now in let w = c.args.self.now in let h = c.requires.worker in let a = act.Create c.args.template in
     let may = create_may s (past_in w) c.args.template c.requires.room c.requires.boot in
-    is_entered s w.nucleus c.step.new.self 0 0 a c.step.result h.worker.nucleus (zero_asked s (past_in w) a h.going may) (zero_acts s (past_in w) a h.going may) c.in_default.not-Replied c.in_default.not-Born c.step.ensures
+    is_entered s w.nucleus c.step.new.self 0 0 a c.step.result h.worker.nucleus (zero_asked s (past_in w) a h.going may) (zero_acts s (past_in w) a h.going may) (λ z. z) c.in_default.not-Replied c.in_default.not-Born c.step.ensures

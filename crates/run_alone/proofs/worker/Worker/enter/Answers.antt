@@ -5,7 +5,7 @@ use Rattle.domain_machine.specs.Machines.{HasTaken, IsEntryOf}
 use Rattle.table_threads.specs.CallChanges.{entry}
 use Rattle.run_alone.proofs.LastEntries.{newest_is}
 use Rattle.run_alone.proofs.Entered.{is_replied}
-use Rattle.run_alone.proofs.KindsOfActs.{makes_none}
+use Rattle.run_alone.proofs.KindsOfActs.{makes_none, takes_none}
 use Rattle.run_alone.proofs.TurnActs.{able, actor_in, asked, entry_of, from_one, may_come, not_zeros, permitted, place, turn_gone_on}
 use Rattle.run_alone.specs.Workers.{HasGoneOn, past_in}
 use Rattle.run_alone.proofs.worker.Worker.enter.Goals as goal
@@ -17,7 +17,7 @@ pub unreachable-requires : goal.unreachable-requires
 unreachable-requires c =
     let s = c.args.system.now in let w = c.args.self.now in let h = c.requires.worker in let d = c.args.domain.0 in let a = c.args.act in let t = c.requires.turn in let u = c.requires.supported in
     let p = permitted s w h d a t u in
-    is_replied s w.nucleus c.step.new.self d p.0 a c.step.result h.worker.nucleus (asked s w h d a t u) p.1 (λ r. makes_none a r (not_zeros s w h d a t u) u) c.in_default.not-Replied c.step.ensures
+    is_replied s w.nucleus c.step.new.self d p.0 a c.step.result h.worker.nucleus (asked s w h d a t u) p.1 (takes_none a u) (λ r. makes_none a r (not_zeros s w h d a t u) u) c.in_default.not-Replied c.step.ensures
 
 pub overflow_sub-place : goal.overflow_sub-place
 overflow_sub-place c =

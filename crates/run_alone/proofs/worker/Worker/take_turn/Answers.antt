@@ -9,6 +9,9 @@ use Rattle.run_alone.proofs.worker.Worker.take_turn.Goals as goal
 pub act_of_turn-requires-clause-live : goal.act_of_turn-requires-clause-live
 act_of_turn-requires-clause-live c = turn_acts (past_in c.args.self.now) c.args.domain.0 c.requires.turn.turn
 
+pub act_of_turn-requires-clause-room : goal.act_of_turn-requires-clause-room
+act_of_turn-requires-clause-room c = c.requires.turn.free.room
+
 pub overflow_sub-domain : goal.overflow_sub-domain
 overflow_sub-domain c = from_one c.args.system.now c.args.self.now c.requires.worker c.args.domain.0 (turn_acts (past_in c.args.self.now) c.args.domain.0 c.requires.turn.turn)
 
