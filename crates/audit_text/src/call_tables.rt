@@ -197,18 +197,8 @@ impl Owners {
 }
 
 impl CallTables {
-    /// The tables after these entries.
-    pub fn after(entries: &[Entry]) -> CallTables
-        ensures { HasCallTables result (reverse entries.now) }
-    {
-        let mut tables = CallTables::new();
-        for entry in entries {
-            tables.note(entry);
-        }
-        tables
-    }
-
-    fn new() -> CallTables
+    /// The tables before any entry.
+    pub fn new() -> CallTables
         ensures { HasCallTables result [] }
     {
         CallTables {
@@ -220,6 +210,17 @@ impl CallTables {
                 by_number: [0; SERVICES],
             },
             ended: [false; DOMAINS],
+        }
+    }
+
+    /// Notes these entries, the first ones of a history. The tables are large, so that they are
+    /// filled where they stand.
+    pub fn note_all(&mut self, entries: &[Entry])
+        requires { HasCallTables self.old [] }
+        ensures { HasCallTables self.new (reverse entries.now) }
+    {
+        for entry in entries {
+            self.note(entry);
         }
     }
 

@@ -86,7 +86,8 @@ pub fn write_calls<K: Sink>(
         (up_to (calls_made (reverse entries.now))))
         (page.old, K.state sink.old) (page.new, K.state sink.new) result }
 {
-    let tables = CallTables::after(entries);
+    let mut tables = CallTables::new();
+    tables.note_all(entries);
     for entry in entries {
         write_call(&tables, entry, page, sink)?;
     }

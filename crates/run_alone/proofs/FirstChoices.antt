@@ -1,7 +1,7 @@
 -- The first choice of a domain lets a thread run, and is well made.
-use Rattle.std.proofs.Common.{◌≡◌, refl, sym, ◌∙◌, ap, subst, ℕ, ◌+◌, ◌*◌, ◌<◌, ◌≤◌, ◌^◌, cond, filter, slice_get, Bool, true, false, ◌&&◌, List, [], ◌∷◌, ◌++◌, length, Option, Some, None, is_some, arith, if◌then◌else◌}
-use Rattle.std.specs.Prelude.{find, nat_le, replicate, ⊤}
-use Rattle.std.specs.List.{AllByRecursion, range_with_len}
+use Rattle.std.proofs.Common.{◌≡◌, refl, sym, ◌∙◌, ap, subst, ℕ, ◌+◌, ◌<◌, ◌≤◌, ◌^◌, cond, filter, slice_get, Bool, true, false, ◌&&◌, List, [], ◌∷◌, Option, Some, None, is_some, arith, if◌then◌else◌}
+use Rattle.std.specs.Prelude.{find, nat_le, ⊤}
+use Rattle.std.specs.List.{AllByRecursion}
 use Rattle.std.specs.Option.{option_and_then, option_map, option_or}
 use Rattle.jx_base.specs.declared.act.Act.{Act}
 use Rattle.jx_base.specs.declared.act.Act.TheVariants as act
@@ -12,7 +12,6 @@ use Rattle.jx_base.specs.declared.act.Reply.TheVariants as reply
 use Rattle.jx_base.specs.declared.ids.CallId.{CallId}
 use Rattle.jx_base.specs.declared.ids.ClassId.{ClassId}
 use Rattle.jx_base.specs.declared.ids.ServiceId.{ServiceId}
-use Rattle.jx_base.specs.declared.ids.ThreadId.{ThreadId}
 use Rattle.jx_base.specs.declared.program.System.{System}
 use Rattle.jx_base.specs.declared.states.ThreadState.{ThreadState}
 use Rattle.jx_base.specs.declared.states.ThreadState.TheVariants as thread

@@ -1,40 +1,29 @@
 -- What one worker picks is permitted.
-use Rattle.std.proofs.Common.{◌≡◌, refl, sym, ◌∙◌, ap, subst, ℕ, ◌+◌, ◌<◌, ◌≤◌, ◌^◌, filter, slice_get, Bool, true, false, ◌&&◌, ◌||◌, List, [], ◌∷◌, ◌++◌, length, Option, Some, None, is_some, is_none, arith, if◌then◌else◌, ◌⊎◌, inl, inr}
+use Rattle.std.proofs.Common.{◌≡◌, refl, sym, ◌∙◌, ap, subst, ℕ, ◌+◌, ◌≤◌, Bool, true, false, ◌&&◌, ◌||◌, List, [], ◌∷◌, ◌++◌, length, Option, Some, None, is_some, is_none, arith, if◌then◌else◌, ◌⊎◌, inl, inr}
 use Rattle.std.specs.Prelude.{IsSome}
-use Rattle.std.specs.Option.{option_and_then, option_map, option_or}
+use Rattle.std.specs.Option.{option_and_then, option_or}
 use Rattle.jx_base.specs.declared.act.Act.{Act}
 use Rattle.jx_base.specs.declared.act.Act.TheVariants as act
 use Rattle.jx_base.specs.declared.act.Reply.{Reply}
-use Rattle.jx_base.specs.declared.ids.CallId.{CallId}
 use Rattle.jx_base.specs.declared.ids.ServiceId.{ServiceId}
-use Rattle.jx_base.specs.declared.ids.ThreadId.{ThreadId}
 use Rattle.jx_base.specs.declared.program.System.{System}
-use Rattle.jx_base.specs.declared.states.ThreadState.{ThreadState}
-use Rattle.jx_base.specs.declared.states.ThreadState.TheVariants as thread
-use Rattle.jx_base.specs.Basics.{first_some, is_number, passes}
+use Rattle.jx_base.specs.Basics.{is_number}
 use Rattle.jx_base.specs.Histories.{Past, is_own, own_entries}
-use Rattle.jx_base.proofs.BasicLaws.{ap2, ap3, passed}
+use Rattle.jx_base.proofs.BasicLaws.{ap2, ap3}
 use Rattle.program_model.specs.Lookup.{template_at}
 use Rattle.machine_model.specs.Machine.{Does, Idle, NextAct, act_in, domain_state, next_act}
 use Rattle.machine_model.specs.Running.{Ask, Step, StepOutcome, state_at_act, step}
 use Rattle.machine_model.specs.State.{State}
 use Rattle.machine_laws.proofs.Standing.{standing}
 use Rattle.jx_base.specs.declared.act.Reason.TheVariants as reason
-use Rattle.jx_model.specs.Calls.{Answer, Asked, answer_of, asked_by, calls_made, is_call, is_queued, is_resumable, queue_head, queued_as, queued_calls, service_of_call, waiting_calls}
-use Rattle.std.specs.List.{range_with_len}
-use Rattle.jx_base.specs.Basics.{up_to}
-use Rattle.jx_base.specs.Histories.{count_where}
-use Rattle.jx_base.proofs.NthEntries.{count_same}
-use Rattle.table_threads.proofs.CallActs.{answered_made}
-use Rattle.table_threads.proofs.CallStages.{resumable_parts}
 use Rattle.jx_model.specs.Domains.{is_live, template_of}
 use Rattle.jx_model.specs.Journal.{is_full}
 use Rattle.jx_model.specs.Legal.{FollowsCode, IsAdmittedPast, IsFrom}
-use Rattle.jx_model.specs.Permits.{acting_thread, can_act, choice_thread, domain_thread, domains_wait, first_choice, first_of_choices, go_at, going_thread, idle_thread, is_choice, is_halt, is_over, is_yielded, is_zero_act, may_perform, next_boot, resume_at, resume_in, take_at, zero_may, zero_may_now}
+use Rattle.jx_model.specs.Permits.{acting_thread, can_act, choice_thread, domain_thread, domains_wait, first_choice, is_choice, is_halt, is_over, is_zero_act, may_perform, next_boot, zero_may, zero_may_now}
 use Rattle.jx_model.specs.SingleWorker.{act_of_turn, code_act, performed}
-use Rattle.jx_model.specs.Threads.{new_threads, new_threads_of, running_thread, service_threads, thread_state, threads_of}
+use Rattle.jx_model.specs.Threads.{new_threads, new_threads_of, running_thread, service_threads}
 use Rattle.supported_acts.specs.SupportedActs.{IsSupported, is_supported}
-use Rattle.jx_model.proofs.Acting.{chosen, running_within, state_within}
+use Rattle.jx_model.proofs.Acting.{running_within}
 use Rattle.supported_acts.specs.SupportedActs.{AreSupported}
 use Rattle.table_threads.proofs.Records.{is_that, not_that}
 use Rattle.thread_laws.proofs.Agreement.{agreement_stands}

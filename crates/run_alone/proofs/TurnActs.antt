@@ -11,7 +11,6 @@ use Rattle.jx_model.specs.Domains.{is_birth, template_of}
 use Rattle.jx_model.specs.Legal.{IsFrom, IsNext}
 use Rattle.jx_model.specs.Permits.{acting_thread, can_act, first_choice, is_ending, is_over, is_zero_act}
 use Rattle.jx_model.specs.SingleWorker.{Pick, PicksEach, pick}
-use Rattle.jx_model.specs.WellMade.{IsWellMade}
 use Rattle.supported_acts.specs.SupportedActs.{IsSupported, is_supported}
 use Rattle.jx_model.specs.WhyNot.{CanBeAsked}
 use Rattle.machine_model.specs.Machine.{next_act}

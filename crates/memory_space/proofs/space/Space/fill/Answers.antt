@@ -20,7 +20,7 @@ fill-requires c =
     (place_lies x.objects x.extents.items x.pool c.args.domain.0 c.args.object.0 c.args.at c.args.count (c.in-Ok.extent, c.in-Ok.from) c.self.invariant.backed (is_at x.objects c.args.domain.0 c.args.object.0 c.args.at c.args.count (c.in-Ok.extent, c.in-Ok.from) found))
 
 pub invariant_of-self : goal.invariant_of-self
-invariant_of-self c = space_written c.self.inside c.fill.new.self c.in-Ok.extent c.in-Ok.from c.natural.result (λ _. c.args.byte) c.self.invariant c.fill.ensures
+invariant_of-self c = space_written c.self.inside c.fill.new.self c.in-Ok.extent c.in-Ok.from c.natural.result _ c.self.invariant c.fill.ensures
 
 pub returns-in-Ok-clause-reply : goal.returns-in-Ok-clause-reply
 returns-in-Ok-clause-reply c =
