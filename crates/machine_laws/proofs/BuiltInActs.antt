@@ -1,4 +1,4 @@
--- The built-in methods perform acts of code.
+-- The built-in methods perform acts of instructions.
 use Rattle.std.proofs.Common.{◌≡◌, refl, ℕ, ℤ, pos, negsuc, Bool, true, false, ◌&&◌, List, [], ◌∷◌, Option, Some, None, slice_get, ◌==◌}
 use Rattle.std.specs.Prelude.{find, if◌then◌else◌}
 use Rattle.std.specs.List.{AllByRecursion}
@@ -18,11 +18,11 @@ use Rattle.program_model.specs.Ranges.{is_service_name}
 use Rattle.machine_model.specs.BuiltInMethods.{BuiltInMethod, BuiltInOutcome, Effect, Gives, HasNoRoom, Performs, Raises, Unfit, act_if, append_of, appended_bool, appended_number, appended_text, appended_unit, bind, builder_constructor, builder_effects, built_in_method, built_in_outcome, constructor, constructor_effects, copy, effects_of, export, export_of, fill, first_cell, identity_test, int_act, interface_named, is_of, is_short, is_thread_count, lookup, memory_act, memory_effects, memory_int_act, memory_ints_act, message_constructor, message_effects, object_effects, pause, result_value, string_effects, text_act, text_cells, text_concatenation, text_hash, text_length, text_of, text_test, text_unit, unit_at, with_new_text, zero_effects}
 use Rattle.machine_model.specs.State.{Store, cells_of, class_of_object, new_object}
 use Rattle.machine_laws.proofs.Lists.{all_append, all_found}
-use Rattle.machine_laws.proofs.CodeActs.{IsCodeAct}
+use Rattle.machine_laws.proofs.CodeActs.{IsInstructionAct}
 
--- what it performs is an act of code
+-- what it performs is an act of an instruction
 abbrev pub PerformsOfCode : BuiltInOutcome → Type 0
-PerformsOfCode (Performs a) = IsCodeAct a
+PerformsOfCode (Performs a) = IsInstructionAct a
 PerformsOfCode _ = Unit {0}
 
 -- so is what a method performs, whatever it is called with
@@ -120,13 +120,13 @@ append_of_code more s store _ = tt
 
 -- ---- jx/Zero
 
-text_act_of : (f : List ℕ → Act) → ((t : List ℕ) → IsCodeAct (f t)) → IsOfCode (text_act f)
+text_act_of : (f : List ℕ → Act) → ((t : List ℕ) → IsInstructionAct (f t)) → IsOfCode (text_act f)
 unfolding text_act act_if
 text_act_of f h s store (value.Null ∷ []) = tt
 text_act_of f h s store (value.Ref r ∷ []) = chosen_of (is_short (text_of store r)) _ _ (h (text_of store r)) tt
 text_act_of f h s store _ = tt
 
-int_act_of : (f : ℤ → Act) → ((n : ℤ) → IsCodeAct (f n)) → IsOfCode (int_act f)
+int_act_of : (f : ℤ → Act) → ((n : ℤ) → IsInstructionAct (f n)) → IsOfCode (int_act f)
 unfolding int_act
 int_act_of f h s store (value.Int n ∷ []) = h n
 int_act_of f h s store _ = tt
@@ -181,17 +181,17 @@ export_of_code s store _ = tt
 
 -- ---- jx/Memory
 
-memory_of : (f : ObjectId → Act) → ((m : ObjectId) → IsCodeAct (f m)) → IsOfCode (memory_act f)
+memory_of : (f : ObjectId → Act) → ((m : ObjectId) → IsInstructionAct (f m)) → IsOfCode (memory_act f)
 unfolding memory_act
 memory_of f h s store (value.Mem m ∷ []) = h m
 memory_of f h s store _ = tt
 
-memory_int_of : (f : ObjectId → ℤ → Act) → ((m : ObjectId) (n : ℤ) → IsCodeAct (f m n)) → IsOfCode (memory_int_act f)
+memory_int_of : (f : ObjectId → ℤ → Act) → ((m : ObjectId) (n : ℤ) → IsInstructionAct (f m n)) → IsOfCode (memory_int_act f)
 unfolding memory_int_act
 memory_int_of f h s store (value.Mem m ∷ value.Int n ∷ []) = h m n
 memory_int_of f h s store _ = tt
 
-memory_ints_of : (f : ObjectId → ℤ → ℤ → Act) → ((m : ObjectId) (n k : ℤ) → IsCodeAct (f m n k)) → IsOfCode (memory_ints_act f)
+memory_ints_of : (f : ObjectId → ℤ → ℤ → Act) → ((m : ObjectId) (n k : ℤ) → IsInstructionAct (f m n k)) → IsOfCode (memory_ints_act f)
 unfolding memory_ints_act
 memory_ints_of f h s store (value.Mem m ∷ value.Int n ∷ value.Int k ∷ []) = h m n k
 memory_ints_of f h s store _ = tt
@@ -287,7 +287,7 @@ effects c =
     (chosen_list (c == portal_class) _ _ tt
     (chosen_list (c == zero_class) _ _ zeros (chosen_list (c == memory_class) _ _ memories (constructors c)))))))
 
--- a built-in method performs an act of code
+-- a built-in method performs such an act
 pub built_in_of : (s : System) (store : Store) (k : Method) (args : List Value) → PerformsOfCode (built_in_outcome s store k args)
 unfolding built_in_outcome
 built_in_of s store k args = by (selector_at s k.selector.0)

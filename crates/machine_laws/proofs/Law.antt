@@ -90,7 +90,7 @@ begun_known s t = by (template_at s t)
     by (Some x) = start_known s x
 
 -- an act that is well made takes a call with a number of 32 bits
-pub takes_known : (s : System) (past : Past) (a : Act) → IsWellMade s past a → TakesKnownCall s a
+pub takes_known : (s : System) (past : Past) (a : Act) → IsWellMade s past a → TakesKnownCall a
 takes_known s past (act.Take c) h = h
 takes_known s past _ h = tt
 

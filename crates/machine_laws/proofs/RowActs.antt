@@ -1,4 +1,4 @@
--- The rows on objects ask for acts of code.
+-- The rows on objects ask for acts of instructions.
 use Rattle.std.proofs.Common.{◌≡◌, refl, ℕ, ℤ, pos, negsuc, Bool, true, false, not, List, [], ◌∷◌, length, drop, map, Option, Some, None}
 use Rattle.std.specs.Prelude.{nat_lt, if◌then◌else◌}
 use Rattle.std.specs.Option.{option_map}
@@ -33,11 +33,11 @@ use Rattle.program_model.specs.Lookup.{constant_at, is_built_in, shape_fits, sha
 use Rattle.program_model.specs.Parcels.{packed}
 use Rattle.program_model.specs.Types.{is_void}
 use Rattle.machine_laws.proofs.BuiltInActs.{PerformsOfCode, built_in_of}
-use Rattle.machine_laws.proofs.CodeActs.{IsCodeAct}
+use Rattle.machine_laws.proofs.CodeActs.{IsInstructionAct}
 
--- what it asks for is an act of code
+-- what it asks for is an act of an instruction
 abbrev pub AsksOfCode : ObjectOutcome → Type 0
-AsksOfCode (object.Ask a) = IsCodeAct a
+AsksOfCode (object.Ask a) = IsInstructionAct a
 AsksOfCode _ = Unit {0}
 
 -- what comes of a test, and of a value that is there
@@ -277,7 +277,7 @@ module _ (s : System) (core : Core) where
       by true = given_asks _ _ (λ x. used_asks (row_at i.opcode) i x f.stack.values)
       by false = plain_asks (row_at i.opcode) i f.stack.values
 
-  -- an instruction on objects asks for an act of code
+  -- an instruction on objects asks for such an act
   pub object_asks : (i : Instr) → AsksOfCode (object_row s core i)
   unfolding object_row
   object_asks i = by core.frames

@@ -62,6 +62,10 @@ agrees_on_way s past d n st h =
       rest = λ k y e r. let q : st.running ≢ Some k = λ z. r (x.running ∙ z) in h.rest k y (sym (x.others k q) ∙ e) q;
     }
 
+-- at the next act
+pub agrees_at_act : (s : System) (past : Past) (d : ℕ) (st : State) → Agrees past d st → Agrees past d (state_at_act s st)
+agrees_at_act s past d st h = subst (Agrees past d) (sym (at_act_is s st)) (agrees_on_way s past d st.fuel st h)
+
 -- ---- the start
 
 start_only : (s : System) (x : Template) → (first : State) × (first.running ≡ Some 0) × (first.threads ≡ idle_thread ∷ []) × ChangesOnly 0 first (start_of s x)
@@ -113,7 +117,7 @@ other_agrees e past d st q h =
 -- ---- an entry of its own
 
 -- an item that is there
-item_there : {X : Type 0} (xs : List X) (i : ℕ) → i < length xs → (x : X) × (slice_get xs i ≡ Some x)
+pub item_there : {X : Type 0} (xs : List X) (i : ℕ) → i < length xs → (x : X) × (slice_get xs i ≡ Some x)
 item_there [] i l = absurd (omega (arith, l))
 item_there (x ∷ xs) zero l = (x, refl)
 item_there (x ∷ xs) (suc i) l = item_there xs i (omega (arith, l))
@@ -123,7 +127,7 @@ own_of : (e : Entry) (d : ℕ) → e.domain.0 ≡ d → is_own d e ≡ true
 unfolding is_own
 own_of e d q = is_that e.domain.0 d q
 
-of_thread : (e : Entry) (d : ℕ) → e.domain.0 ≡ d → is_of_thread d e.thread.0 e ≡ true
+pub of_thread : (e : Entry) (d : ℕ) → e.domain.0 ≡ d → is_of_thread d e.thread.0 e ≡ true
 of_thread e d q = subst (λ (k : ℕ). is_of_thread k e.thread.0 e ≡ true) q (own_thread e)
 
 -- the state has the entry's thread
@@ -134,7 +138,7 @@ actor_at s past e d st n q h =
     item_there st.threads e.thread.0 (omega (arith, h.count, l))
 
 -- the entry's thread runs, or none does and a choice lets it run
-actor_cases : (s : System) (past : Past) (e : Entry) (d : ℕ) → IsNext s past e → e.domain.0 ≡ d → 1 ≤ d →
+pub actor_cases : (s : System) (past : Past) (e : Entry) (d : ℕ) → IsNext s past e → e.domain.0 ≡ d → 1 ≤ d →
     ((running_thread past d ≡ Some e.thread.0) × (may_perform past d e.thread.0 e.act ≡ true)) ⊎ ((running_thread past d ≡ None) × (is_live past d ≡ true) × (choice_thread past d e.act ≡ Some e.thread.0))
 actor_cases s past e d n q l = by (acting_cases s past d e.thread.0 e.act a)
   where
@@ -147,7 +151,7 @@ actor_cases s past e d n q l = by (acting_cases s past d e.thread.0 e.act a)
     by (inr x) = domain_cases past d e.thread.0 e.act x.1
 
 -- the running thread asks for the act that the code performs next
-asks_its_act : (s : System) (t : ℕ) (own : Past) (k : ℕ) (a : Act) → (state_at_act s (domain_state s t own)).running ≡ Some k → IsFrom (next_act s t own) a → step s (state_at_act s (domain_state s t own)) k ≡ Ask a
+pub asks_its_act : (s : System) (t : ℕ) (own : Past) (k : ℕ) (a : Act) → (state_at_act s (domain_state s t own)).running ≡ Some k → IsFrom (next_act s t own) a → step s (state_at_act s (domain_state s t own)) k ≡ Ask a
 asks_its_act s t own k a r f = asked.1 ∙ ap (λ (x : Act). Ask x) (sym same)
   where
     st : State
@@ -173,7 +177,7 @@ module _ (s : System) (past : Past) (e : Entry) (d t : ℕ) (own : Past) (n : Is
   mid = state_at_act s (domain_state s t own)
 
   met : Agrees past d mid
-  met = subst (Agrees past d) (sym (at_act_is s (domain_state s t own))) (agrees_on_way s past d (domain_state s t own).fuel (domain_state s t own) h)
+  met = agrees_at_act s past d (domain_state s t own) h
 
   -- the state after it, where its thread is x
   abbrev new : Thread → State
@@ -293,7 +297,7 @@ agreement_stands s past a d t st l i f h =
 -- ---- the thread of an entry
 
 -- the entry that comes next is of its thread
-of_its_thread : (s : System) (past : Past) (e : Entry) (d : ℕ) (st : State) → IsNext s past e → e.domain.0 ≡ d → 1 ≤ d → Agrees past d st → IsOfThread st e
+pub of_its_thread : (s : System) (past : Past) (e : Entry) (d : ℕ) (st : State) → IsNext s past e → e.domain.0 ≡ d → 1 ≤ d → Agrees past d st → IsOfThread st e
 of_its_thread s past e d st n q l h = by (actor_cases s past e d n q l)
   where
     x : (x : Thread) × (thread_at st e.thread.0 ≡ Some x)

@@ -4,4 +4,6 @@ pub mod StepThreads
 pub mod EntryThreads
 pub mod RunningThreads
 pub mod Agreement
+pub mod ServedThreads
+pub mod PermittedActs
 pub mod AfterEnds

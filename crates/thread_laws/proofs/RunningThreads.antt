@@ -36,7 +36,7 @@ use Rattle.thread_laws.proofs.KindsOfActs.{ends, pauses, running_after, stops}
 
 -- ---- the state of a thread after its own entry
 
-serves_own : (e : Entry) (past : Past) (d t : ℕ) → is_of_thread d t e ≡ true → served_call (e ∷ past) d t ≡ served_after (served_call past d t) e.act
+pub serves_own : (e : Entry) (past : Past) (d t : ℕ) → is_of_thread d t e ≡ true → served_call (e ∷ past) d t ≡ served_after (served_call past d t) e.act
 unfolding served_call
 serves_own e past d t h = ap (λ (b : Bool). elim b as (λ _. Option CallId) [ true ↦ served_after (served_call past d t) e.act | false ↦ served_call past d t ]) h
 
@@ -109,7 +109,7 @@ is_paused thread.Yielded = true
 is_paused _ = false
 
 -- thread 0, or it serves a call
-abbrev IsEngaged : Past → ℕ → ℕ → Type 0
+abbrev pub IsEngaged : Past → ℕ → ℕ → Type 0
 IsEngaged past d t = (t ≡ 0) ⊎ ((c : CallId) × (served_call past d t ≡ Some c))
 
 pauses_no_choice : (a : Act) → pauses a ≡ true → is_choice a ≡ false
@@ -124,7 +124,7 @@ pauses_serve o (act.Call k m p) h = refl
 pauses_serve o act.Yield h = refl
 pauses_serve o _ h = cc
 
-engaged_runs : (past : Past) (d t : ℕ) → t ≤ length (service_threads past d) → Runs past d t → IsEngaged past d t
+pub engaged_runs : (past : Past) (d t : ℕ) → t ≤ length (service_threads past d) → Runs past d t → IsEngaged past d t
 unfolding serving_state is_running_state
 engaged_runs past d zero l r = inl refl
 engaged_runs past d (suc t) l r = let k = service_there past d t l in by (slice_get (service_threads past d) t) k.0 k.1 (served_call past d (suc t)) refl (runs_base past d (suc t) r)
@@ -329,7 +329,7 @@ stopped_where s past e d t n h w q x m r = none_running (e ∷ past) d (λ k z. 
 
 -- ---- an entry of another domain
 
-not_of : (e : Entry) (d t : ℕ) → is_own d e ≡ false → is_of_thread d t e ≡ false
+pub not_of : (e : Entry) (d t : ℕ) → is_own d e ≡ false → is_of_thread d t e ≡ false
 unfolding is_of_thread
 not_of e d t q = ap (λ (b : Bool). b && (e.thread.0 == t)) q
 

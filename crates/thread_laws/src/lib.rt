@@ -3,4 +3,7 @@
 
 mod laws;
 
-pub use laws::{entries_are_of_their_thread, nothing_follows_an_end, states_agree_on_threads};
+pub use laws::{
+    entries_are_of_their_thread, nothing_follows_an_end, running_threads_may_perform,
+    states_agree_on_threads, threads_serve_their_calls,
+};
