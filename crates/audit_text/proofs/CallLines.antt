@@ -42,7 +42,7 @@ use Rattle.audit_text.specs.declared.call_tables.CallTables.{CallTables}
 use Rattle.audit_text.specs.declared.call_tables.Standing.{Standing}
 use Rattle.audit_text.specs.declared.call_tables.Standing.TheVariants.{Answered, Queued, Running}
 use Rattle.audit_text.specs.CallTables.{served_number, last_take, last_taken, last_taker, owner_number, has_ended, HasCallTables, near, standing_in, standing_line, queued_call, entry_call_line, taken_call}
-use Rattle.audit_text.proofs.SupportedActs.{reverse-cons}
+use Rattle.audit_text.proofs.EntryOrder.{reverse-cons}
 use Rattle.audit_text.proofs.Rows.{row_is, stands_in, stands_among}
 use Rattle.audit_text.proofs.LastTakes.{HasServer, has_server, in_order, service_there}
 use Rattle.audit_text.proofs.ServingThreads.{IsThreadOf, last_by, serving, threads_close, thread_within}

@@ -20,7 +20,7 @@ use Rattle.jx_model.proofs.OneThread.{serves_same}
 use Rattle.table_threads.proofs.Records.{not_that}
 use Rattle.audit_text.specs.declared.call_tables.CallTables.{CallTables}
 use Rattle.audit_text.specs.CallTables.{served_number, taken_service, taken_call, last_take, last_taken, last_taker, owner_number, has_ended, HasRows, HasServed, HasCallTables, served_then, ended_domain, served_noted, numbers_noted, ended_noted}
-use Rattle.audit_text.proofs.SupportedActs.{taken_one_more}
+use Rattle.audit_text.proofs.EntryOrder.{taken_one_more}
 use Rattle.audit_text.proofs.Rows.{all_there, put_there, put_elsewhere, same_or_other, rows_same, rows_put}
 
 -- ---- what a thread serves

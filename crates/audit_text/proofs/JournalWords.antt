@@ -1,22 +1,17 @@
 -- The words that entries cost, and the room that an admitted history leaves.
-use Rattle.std.proofs.Common.{◌≡◌, refl, ℕ, ◌+◌, ◌≤◌, Bool, true, false, ◌||◌, ◌==◌, if◌then◌else◌, List, [], ◌∷◌, Option, Some, None, is_some, arith}
-use Rattle.std.specs.List.{AllByRecursion}
+use Rattle.std.proofs.Common.{◌≡◌, refl, ℕ, ◌≤◌, Bool, true, false, ◌||◌, ◌==◌, if◌then◌else◌, [], ◌∷◌, Option, Some, None, is_some, arith}
 use Rattle.std.proofs.lemmas.Bool.Decides.{nat_tests}
 use Rattle.jx_base.specs.declared.act.Act.{Act}
 use Rattle.jx_base.specs.declared.act.Act.TheVariants as act
-use Rattle.jx_base.specs.declared.act.Reply.{Reply}
-use Rattle.jx_base.specs.declared.act.Reply.TheVariants as reply
 use Rattle.jx_base.specs.declared.act.Entry.{Entry}
 use Rattle.jx_base.specs.declared.program.System.{System}
-use Rattle.program_model.specs.Limits.{journal_limit, text_limit, entry_limit}
+use Rattle.program_model.specs.Limits.{journal_limit, entry_limit}
 use Rattle.jx_base.specs.Histories.{Past}
-use Rattle.jx_model.specs.Journal.{words_of, entry_words, act_words, reply_words, is_full}
+use Rattle.jx_model.specs.Journal.{words_of, entry_words, is_full}
 use Rattle.jx_model.specs.Permits.{acting_thread, zero_may, zero_may_now, domains_wait, domain_thread, is_ending, is_halt, is_over, next_boot}
 use Rattle.jx_model.specs.Legal.{IsNext, IsAdmittedPast}
-use Rattle.jx_model.specs.WellMade.{IsWellMade}
-use Rattle.supported_acts.specs.SupportedActs.{IsSupported, is_supported}
 use Rattle.audit_model.specs.AuditText.{before_last}
-use Rattle.audit_text.specs.Rendering.{IsSupportedEntry, IsSupportedReply}
+use Rattle.audit_text.proofs.EntryCosts.{entry_small}
 use Rattle.audit_text.proofs.Sums.{entry_sum}
 
 pub words-sum : (past : Past) → words_of past ≡ entry_sum entry_words past
@@ -57,62 +52,21 @@ before_halt : (e : Entry) (past : Past) → is_over (e ∷ past) ≡ false → i
 unfolding is_over
 before_halt e past h = no_ending e.act _ h
 
-no_reply_words : (r : Reply) → IsSupportedReply r → reply_words r ≡ 0
-unfolding reply_words
-no_reply_words reply.Done k = refl
-no_reply_words (reply.Domain d g) k = refl
-no_reply_words (reply.Refused r) k = refl
-no_reply_words _ k = absurd k
-
-act_words_below : (s : System) (past : Past) (a : Act) (r : Reply) → IsSupported a → IsSupportedReply r → IsWellMade s past a → 8 + act_words a + reply_words r ≤ 4104
-unfolding is_supported act_words text_limit
-act_words_below s past (act.Print text) r h k well_made = omega (arith, no_reply_words r k, well_made.short)
-act_words_below s past (act.Create t) r h k well_made = omega (arith, no_reply_words r k)
-act_words_below s past (act.Go t) r h k well_made = omega (arith, no_reply_words r k)
-act_words_below s past (act.Exit code) r h k well_made = omega (arith, no_reply_words r k)
-act_words_below s past act.Yield r h k well_made = omega (arith, no_reply_words r k)
-act_words_below s past (act.EndThread c) r h k well_made = omega (arith, no_reply_words r k)
-act_words_below s past (act.End why) r h k well_made = omega (arith, no_reply_words r k)
-act_words_below s past act.Quiet r h k well_made = omega (arith, no_reply_words r k)
-act_words_below s past act.Halt r h k well_made = omega (arith, no_reply_words r k)
-act_words_below s past _ r h k well_made = absurd (cc)
-
--- an entry costs at most what the journal keeps free for one
-entry_below : (s : System) (past : Past) (e : Entry) → IsNext s past e → IsSupportedEntry e → entry_words e ≤ 4104
-unfolding entry_words
-entry_below s past e next h = act_words_below s past e.act e.reply h.act h.reply next.well_made
-
-words_before : (s : System) (past : Past) (e : Entry) (halts : Bool) → is_halt e.act ≡ halts → IsNext s past e → IsAdmittedPast s past → AllByRecursion IsSupportedEntry past → words_of past ≤ journal_limit s
+-- what stands before an entry fits the journal
+words_before : (s : System) (past : Past) (e : Entry) (halts : Bool) → is_halt e.act ≡ halts → IsNext s past e → IsAdmittedPast s past → words_of past ≤ journal_limit s
 unfolding words_of is_full entry_limit
-words_before s past e false other next admitted supported =
+words_before s past e false other next admitted =
     let room : is_full s past ≡ false = room_left s past e.domain.0 e.act e.thread.0 other next.thread in
     grind (arith, nat_tests)
-words_before s [] e true halts next admitted supported = omega arith
-words_before s (f ∷ past) e true halts next admitted supported =
+words_before s [] e true halts next admitted = omega arith
+words_before s (f ∷ past) e true halts next admitted =
     let before : is_halt f.act ≡ false = before_halt f past (not_over s (f ∷ past) e.domain.0 e.act e.thread.0 next.thread) in
     let room : is_full s past ≡ false = room_left s past f.domain.0 f.act f.thread.0 before admitted.0.thread in
-    let cost : entry_words f ≤ 4104 = entry_below s past f admitted.0 supported.0 in
+    let cost : entry_words f ≤ 4104 = entry_small s past f admitted.1 admitted.0 in
     grind (arith, nat_tests)
 
 -- the entries before the last one of an admitted history cost no more words than the journal has
-pub words_small : (s : System) (past : Past) → IsAdmittedPast s past → AllByRecursion IsSupportedEntry past → words_of (before_last past) ≤ journal_limit s
+pub words_small : (s : System) (past : Past) → IsAdmittedPast s past → words_of (before_last past) ≤ journal_limit s
 unfolding before_last words_of
-words_small s [] admitted h = omega arith
-words_small s (e ∷ past) admitted h = words_before s past e (is_halt e.act) refl admitted.0 admitted.1 h.1
-
-words_supported : (a : Act) (r : Reply) → IsSupported a → IsSupportedReply r → ((text : List ℕ) → a ≡ act.Print text → ⊥) → 8 + act_words a + reply_words r ≡ 8
-unfolding is_supported act_words
-words_supported (act.Create t) r h k other = omega (arith, no_reply_words r k)
-words_supported (act.Print text) r h k other = absurd (other text refl)
-words_supported (act.EndThread c) r h k other = omega (arith, no_reply_words r k)
-words_supported act.Quiet r h k other = omega (arith, no_reply_words r k)
-words_supported (act.Go t) r h k other = omega (arith, no_reply_words r k)
-words_supported (act.Exit code) r h k other = omega (arith, no_reply_words r k)
-words_supported act.Yield r h k other = omega (arith, no_reply_words r k)
-words_supported (act.End why) r h k other = omega (arith, no_reply_words r k)
-words_supported act.Halt r h k other = omega (arith, no_reply_words r k)
-words_supported _ r h k other = absurd (cc)
-
-pub entry_words-plain : (e : Entry) → IsSupportedEntry e → ((text : List ℕ) → e.act ≡ act.Print text → ⊥) → entry_words e ≡ 8
-unfolding entry_words
-entry_words-plain e h other = words_supported e.act e.reply h.act h.reply other
+words_small s [] admitted = omega arith
+words_small s (e ∷ past) admitted = words_before s past e (is_halt e.act) refl admitted.0 admitted.1

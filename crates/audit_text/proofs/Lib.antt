@@ -1,9 +1,11 @@
-pub mod EntryLines
+pub mod EntryOrder
 pub mod Births
 pub mod SupportedActs
 pub mod BirthLines
+pub mod BirthCounts
 pub mod Sums
 pub mod UsedGranules
+pub mod EntryCosts
 pub mod JournalWords
 pub mod LastEntry
 pub mod Rows
@@ -12,5 +14,4 @@ pub mod CallSteps
 pub mod LastTakes
 pub mod ServingThreads
 pub mod CallLines
-pub mod SpacedTexts
 pub mod AuditParts

@@ -1,7 +1,7 @@
 -- Sums over entries, in any order.
 use Rattle.std.proofs.Common.{◌≡◌, refl, ℕ, ◌+◌, ◌<◌, List, [], ◌∷◌, ◌++◌, length, drop, get_or, reverse, add-one, drop-cons, arith}
 use Rattle.jx_base.specs.declared.act.Entry.{Entry}
-use Rattle.audit_text.proofs.SupportedActs.{reverse-cons}
+use Rattle.audit_text.proofs.EntryOrder.{reverse-cons}
 
 -- the sum of what f gives of the entries
 unfoldable pub entry_sum : (Entry → ℕ) → List Entry → ℕ

@@ -1,19 +1,18 @@
 //! The audit of a history.
 ghost use Rattle.std.specs.Prelude.{reverse};
-ghost use Rattle.std.specs.List.{AllByRecursion};
 ghost use Rattle.jx_base.specs.Puts.{Puts};
 ghost use Rattle.audit_model.specs.AuditText.{audit_text, lines_after, state_lines};
 ghost use Rattle.jx_model.specs.Legal.{IsAdmitted, IsAdmittedPast};
-ghost use Rattle.audit_text.specs.Rendering.{HasReasons, IsSupportedEntry};
+ghost use Rattle.audit_text.specs.Rendering.{HasReasons};
 ghost use Rattle.page_text.specs.Writes.{Writes};
-ghost use Rattle.supported_acts.specs.SupportedActs.{HasSupportedActs};
+ghost use Rattle.supported_acts.specs.SupportedActs.{AreSupported, HasSupportedActs};
 
 use crate::calls::write_calls;
 use crate::console::write_console;
 use crate::domains::write_domains;
-use crate::entries::write_entries;
 use crate::reasons::EndReasons;
 use crate::totals::write_totals;
+use audit_lines::write_entries;
 use jx_base::{Entry, Failed, History, Sink, System};
 use page_text::{Page, Piece, write_line};
 
@@ -26,7 +25,6 @@ fn write_state<K: Sink>(
     sink: &mut K,
 ) -> Result<(), Failed>
     requires admitted { IsAdmittedPast system.now (reverse entries.now) }
-    requires supported { AllByRecursion IsSupportedEntry entries.now }
     requires reasons { HasReasons reasons.now.by_number (reverse entries.now) }
     ensures { Writes (state_lines system.now (reverse entries.now))
         (page.old, K.state sink.old) (page.new, K.state sink.new) result }
@@ -45,7 +43,7 @@ fn write_after<K: Sink>(
     sink: &mut K,
 ) -> Result<(), Failed>
     requires admitted { IsAdmittedPast system.now (reverse entries.now) }
-    requires supported { AllByRecursion IsSupportedEntry entries.now }
+    requires supported { AreSupported entries.now }
     ensures { Writes (lines_after system.now entries.now (reverse entries.now))
         (page.old, K.state sink.old) (page.new, K.state sink.new) result }
 {

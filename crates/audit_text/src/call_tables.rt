@@ -1,11 +1,12 @@
 //! What the lines of unanswered calls need of a history, found in one pass over its entries.
 ghost use Rattle.std.specs.Prelude.{◌≡◌, ◌+◌, ◌<◌, ◌^◌, [], get_or, if◌then◌else◌, reverse, set};
-ghost use Rattle.jx_base.specs.Basics.{contains_number, not_below_zero};
+ghost use Rattle.jx_base.specs.Basics.{contains_number};
 ghost use Rattle.jx_model.specs.Portals.{is_export};
 ghost use Rattle.audit_text.specs.CallTables.{HasCallTables, ended_domain, ended_noted, near};
 ghost use Rattle.audit_text.specs.CallTables.{numbers_noted, served_noted, served_then};
 ghost use Rattle.audit_text.specs.CallTables.{standing_in, taken_call, taken_service};
 
+use crate::reasons::ended_by;
 use jx_base::{Act, Entry, Reply};
 
 // The number of a domain, of a service and of a thread is its place, so that there is one more than
@@ -91,26 +92,13 @@ fn is_export(entry: &Entry) -> bool
     )
 }
 
-// The domain of that number, or 0 for one below 0.
-#[tactic(auto, unfolding(jx_base::specs::Basics::not_below_zero))]
-fn killed_number(domain: i32) -> u32
-    ensures { result ≡ not_below_zero domain }
-{
-    if domain < 0 { 0 } else { domain as u32 }
-}
-
 // The domain that an entry ends.
-#[tactic(auto, unfolding(crate::specs::CallTables::ended_domain, jx_model::specs::Domains::ended_by, jx_model::specs::Domains::ended_by_act, jx_base::specs::Histories::is_done))]
+#[tactic(auto, unfolding(crate::specs::CallTables::ended_domain))]
 fn ended_domain(entry: &Entry) -> Option<u32>
     ensures { result ≡ ended_domain entry.now }
 {
-    match (&entry.act, &entry.reply) {
-        (Act::Exit(_), _) => Some(entry.domain.0),
-        (Act::End(_), _) => Some(entry.domain.0),
-        (Act::Kill(_), Reply::Refused(_)) => None,
-        (Act::Kill(domain), _) => Some(killed_number(*domain)),
-        _ => None,
-    }
+    let (domain, _) = ended_by(entry)?;
+    Some(domain)
 }
 
 // Puts a number at a place, where there is such a place.

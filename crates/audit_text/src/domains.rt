@@ -1,26 +1,40 @@
 //! The lines of domains.
 ghost use Rattle.std.specs.Prelude.{◌≡◌, reverse};
-ghost use Rattle.std.specs.List.{AllByRecursion, flat_map};
+ghost use Rattle.std.specs.List.{flat_map};
 ghost use Rattle.jx_base.specs.Basics.{up_to};
-ghost use Rattle.jx_model.specs.Domains.{domains_made};
+ghost use Rattle.jx_model.specs.Domains.{domains_made, template_named};
 ghost use Rattle.jx_model.specs.Legal.{IsAdmittedPast};
 ghost use Rattle.audit_model.specs.AuditText.{domain_line};
-ghost use Rattle.audit_text.specs.Rendering.{HasReasons, IsSupportedEntry, made_template};
+ghost use Rattle.audit_text.specs.Rendering.{HasReasons, made_template};
 ghost use Rattle.audit_text.specs.Rendering.{standing_text, domain_text, whole_line};
 ghost use Rattle.page_text.specs.Writes.{Writes};
 
-use crate::names::template_name;
 use crate::reasons::EndReasons;
+use audit_lines::template_name;
 use jx_base::{Act, DomainId, Entry, Failed, Reason, Reply, Sink, System};
 use page_text::{Page, Piece, write_behind, write_words};
 
-/// The template of the domain that the entry made.
+// The template of that name.
+#[tactic(auto, unfolding(jx_model::specs::Domains::template_named))]
+fn template_named(system: &System, name: &[u16]) -> Option<usize>
+    ensures { result ≡ template_named system.now name.now }
+{
+    let templates = system.plan.templates.as_slice();
+    templates
+        .iter()
+        .position(|template| template.name.as_slice() == name)
+}
+
+// The template of the domain that the entry made.
 #[tactic(auto, unfolding(crate::specs::Rendering::made_template))]
-pub fn made_template(entry: &Entry) -> Option<u32>
-    ensures { result ≡ made_template entry.now.act entry.now.reply }
+fn made_template(system: &System, entry: &Entry) -> Option<usize>
+    ensures { result ≡ made_template system.now entry.now.act entry.now.reply }
 {
     match (&entry.act, &entry.reply) {
-        (Act::Create(template), Reply::Domain(_, _)) => Some(*template),
+        (Act::Create(template), Reply::Domain(_, _)) => Some(*template as usize),
+        (Act::Spawn { name }, Reply::Domain(_, _)) => {
+            Some(template_named(system, name.as_slice()).unwrap_or(0))
+        }
         _ => None,
     }
 }
@@ -50,7 +64,7 @@ fn write_standing<K: Sink>(why: Option<Reason>, page: &mut Page, sink: &mut K) -
 fn write_origin<K: Sink>(
     system: &System,
     domain: u64,
-    template: u32,
+    template: usize,
     creator: DomainId,
     page: &mut Page,
     sink: &mut K,
@@ -75,7 +89,7 @@ fn write_origin<K: Sink>(
 #[derive(Clone, Copy)]
 struct Born {
     domain: u64,
-    template: u32,
+    template: usize,
     creator: DomainId,
 }
 
@@ -105,7 +119,6 @@ pub fn write_domains<K: Sink>(
     sink: &mut K,
 ) -> Result<(), Failed>
     requires admitted { IsAdmittedPast system.now (reverse entries.now) }
-    requires supported { AllByRecursion IsSupportedEntry entries.now }
     requires reasons { HasReasons reasons.now.by_number (reverse entries.now) }
     ensures { Writes (flat_map (domain_line system.now (reverse entries.now))
         (up_to (domains_made (reverse entries.now))))
@@ -113,7 +126,7 @@ pub fn write_domains<K: Sink>(
 {
     let mut domains: u64 = 0;
     for entry in entries {
-        if let Some(template) = made_template(entry) {
+        if let Some(template) = made_template(system, entry) {
             domains += 1;
             let born = Born {
                 domain: domains,

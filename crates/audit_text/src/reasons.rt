@@ -1,9 +1,10 @@
 //! Why domains ended, found in one pass over the entries.
 ghost use Rattle.std.specs.Prelude.{◌≡◌, ◌≤◌, Some, reverse, set, slice_get};
-ghost use Rattle.std.specs.List.{AllByRecursion};
-ghost use Rattle.audit_text.specs.Rendering.{HasReasons, IsSupportedEntry, noted, own_reason};
+ghost use Rattle.jx_base.specs.Basics.{not_below_zero};
+ghost use Rattle.jx_model.specs.Domains.{ended_by};
+ghost use Rattle.audit_text.specs.Rendering.{HasReasons, noted};
 
-use jx_base::{Act, Entry, Reason};
+use jx_base::{Act, Entry, Reason, Reply};
 
 // The number of a domain is its place, so that there is one more than domains ever.
 const PLACES: usize = 65;
@@ -14,14 +15,24 @@ pub struct EndReasons {
     pub by_number: [Option<Reason>; PLACES],
 }
 
-// Why the domain that acts ends by its act, if it does.
-#[tactic(auto, unfolding(crate::specs::Rendering::own_reason))]
-fn own_reason(act: &Act) -> Option<Reason>
-    ensures { result ≡ own_reason act.now }
+// The domain of that number, or 0 for one below 0.
+#[tactic(auto, unfolding(jx_base::specs::Basics::not_below_zero))]
+fn killed_number(domain: i32) -> u32
+    ensures { result ≡ not_below_zero domain }
 {
-    match act {
-        Act::Exit(code) => Some(Reason::Exit(*code)),
-        Act::End(why) => Some(*why),
+    if domain < 0 { 0 } else { domain as u32 }
+}
+
+/// The domain that an entry ends, and why.
+#[tactic(auto, unfolding(jx_model::specs::Domains::ended_by, jx_model::specs::Domains::ended_by_act, jx_base::specs::Histories::is_done))]
+pub fn ended_by(entry: &Entry) -> Option<(u32, Reason)>
+    ensures { result ≡ ended_by entry.now }
+{
+    match (&entry.act, &entry.reply) {
+        (Act::Exit(code), _) => Some((entry.domain.0, Reason::Exit(*code))),
+        (Act::End(why), _) => Some((entry.domain.0, *why)),
+        (Act::Kill(_), Reply::Refused(_)) => None,
+        (Act::Kill(domain), _) => Some((killed_number(*domain), Reason::Killed)),
         _ => None,
     }
 }
@@ -38,7 +49,6 @@ fn put_reason(reasons: &mut [Option<Reason>], place: usize, why: Reason)
 impl EndReasons {
     /// The reasons after these entries.
     pub fn after(entries: &[Entry]) -> EndReasons
-        requires { AllByRecursion IsSupportedEntry entries.now }
         ensures { HasReasons result.by_number (reverse entries.now) }
     {
         let mut reasons = EndReasons {
@@ -50,14 +60,13 @@ impl EndReasons {
         reasons
     }
 
-    // Notes why the domain of the entry ends by it, if it does.
+    // Notes why a domain ends by the entry, if one does.
     #[tactic(auto, unfolding(crate::specs::Rendering::noted))]
     fn note(&mut self, entry: &Entry)
-        ensures { self.new.by_number
-            ≡ noted entry.now.domain.0 (own_reason entry.now.act) self.old.by_number }
+        ensures { self.new.by_number ≡ noted (ended_by entry.now) self.old.by_number }
     {
-        if let Some(why) = own_reason(&entry.act) {
-            put_reason(&mut self.by_number, entry.domain.0 as usize, why);
+        if let Some((domain, why)) = ended_by(entry) {
+            put_reason(&mut self.by_number, domain as usize, why);
         }
     }
 

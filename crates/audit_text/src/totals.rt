@@ -1,18 +1,18 @@
 //! The lines of the totals.
 ghost use Rattle.std.specs.Prelude.{◌≡◌, ◌≤◌, ◌<◌, ◌^◌, reverse};
-ghost use Rattle.std.specs.List.{AllByRecursion};
 ghost use Rattle.audit_model.specs.AuditText.{before_last, end_word, total_line, total_lines};
 ghost use Rattle.jx_model.specs.Granules as Spec;
 ghost use Rattle.jx_model.specs.Granules.{used_granules};
-ghost use Rattle.jx_model.specs.Journal.{entry_words, words_of};
+ghost use Rattle.jx_model.specs.Journal.{words_of};
 ghost use Rattle.jx_model.specs.Legal.{IsAdmittedPast};
-ghost use Rattle.audit_text.specs.Rendering.{HasReasons, IsSupportedEntry, total, where_live};
+ghost use Rattle.audit_text.specs.Rendering.{HasReasons, created_template, total, where_live};
 ghost use Rattle.page_text.specs.Writes.{Writes};
+ghost use Rattle.supported_acts.specs.SupportedActs.{AreSupported};
 
-use crate::domains::made_template;
 use crate::reasons::EndReasons;
 use extent_pool::heap_granules;
-use jx_base::{Act, Entry, Failed, Reason, Sink, System};
+use journal::entry_words;
+use jx_base::{Act, Entry, Failed, Reason, Reply, Sink, System};
 use page_text::{Page, Piece, write_line};
 
 fn wide(n: u32) -> u64
@@ -20,6 +20,17 @@ fn wide(n: u32) -> u64
     ensures small { result < 2 ^ 32 }
 {
     u64::from(n)
+}
+
+// The template of the domain that a create made.
+#[tactic(auto, unfolding(crate::specs::Rendering::created_template))]
+fn created_template(entry: &Entry) -> Option<u32>
+    ensures { result ≡ created_template entry.now.act entry.now.reply }
+{
+    match (&entry.act, &entry.reply) {
+        (Act::Create(template), Reply::Domain(_, _)) => Some(*template),
+        _ => None,
+    }
 }
 
 // The granules that a domain of the template has in use, if it has not ended.
@@ -37,14 +48,14 @@ fn granules_of(system: &System, template: u32, why: Option<Reason>) -> u64
 // How many granules are in use.
 fn used_granules(system: &System, entries: &[Entry], reasons: &EndReasons) -> u64
     requires admitted { IsAdmittedPast system.now (reverse entries.now) }
-    requires supported { AllByRecursion IsSupportedEntry entries.now }
+    requires supported { AreSupported entries.now }
     requires reasons { HasReasons reasons.now.by_number (reverse entries.now) }
     ensures { result ≡ used_granules system.now (reverse entries.now) }
 {
     let mut domains: u64 = 0;
     let mut used: u64 = 0;
     for entry in entries {
-        if let Some(template) = made_template(entry) {
+        if let Some(template) = created_template(entry) {
             domains += 1;
             used += granules_of(system, template, reasons.reason(domains));
         }
@@ -52,36 +63,21 @@ fn used_granules(system: &System, entries: &[Entry], reasons: &EndReasons) -> u6
     used
 }
 
-// The words that the entry costs.
-#[tactic(auto, unfolding(jx_model::specs::Journal::entry_words, jx_model::specs::Journal::act_words, jx_model::specs::Journal::reply_words))]
-fn entry_words(entry: &Entry) -> u64
-    requires supported { IsSupportedEntry entry.now }
-    requires small { entry_words entry.now < 2 ^ 32 }
-    ensures { result ≡ entry_words entry.now }
-{
-    match &entry.act {
-        Act::Print(text) => 8 + text.as_slice().len() as u64,
-        _ => 8,
-    }
-}
-
 // The words that the entries cost.
 fn words_of(entries: &[Entry]) -> u64
-    requires supported { AllByRecursion IsSupportedEntry entries.now }
-    requires small { words_of (reverse entries.now) < 2 ^ 32 }
+    requires { words_of (reverse entries.now) < 2 ^ 32 }
     ensures { result ≡ words_of (reverse entries.now) }
 {
     let mut words: u64 = 0;
     for entry in entries {
-        words += entry_words(entry);
+        words += wide(entry_words(entry));
     }
     words
 }
 
 // The words that the entries before the last one cost.
 fn words_before_last(entries: &[Entry]) -> u64
-    requires supported { AllByRecursion IsSupportedEntry entries.now }
-    requires small { words_of (before_last (reverse entries.now)) < 2 ^ 32 }
+    requires { words_of (before_last (reverse entries.now)) < 2 ^ 32 }
     ensures { result ≡ words_of (before_last (reverse entries.now)) }
 {
     match entries.split_last() {
@@ -92,7 +88,6 @@ fn words_before_last(entries: &[Entry]) -> u64
 
 // The word of how the run ends.
 fn end_word(entries: &[Entry]) -> &'static str
-    requires { AllByRecursion IsSupportedEntry entries.now }
     ensures { result.now ≡ end_word (reverse entries.now) }
 {
     match entries.split_last() {
@@ -137,7 +132,7 @@ pub fn write_totals<K: Sink>(
     sink: &mut K,
 ) -> Result<(), Failed>
     requires admitted { IsAdmittedPast system.now (reverse entries.now) }
-    requires supported { AllByRecursion IsSupportedEntry entries.now }
+    requires supported { AreSupported entries.now }
     requires reasons { HasReasons reasons.now.by_number (reverse entries.now) }
     ensures { Writes (total_lines system.now (reverse entries.now))
         (page.old, K.state sink.old) (page.new, K.state sink.new) result }

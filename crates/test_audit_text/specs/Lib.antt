@@ -1,1 +1,2 @@
 pub mod HandMade
+pub mod CallsMade

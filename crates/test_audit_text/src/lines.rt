@@ -2,7 +2,7 @@
 
 use crate::odd_names::{every_word, exception, nothing, parcel, system};
 use crate::rendering::odd_text;
-use audit_text::write_entries;
+use audit_lines::write_entries;
 use jx_base::{
     Act, CallId, ClassId, DomainId, Entry, MemorySink, MethodId, ObjectId, OutOfMemory, Reason,
     Refusal, Reply, ServiceId, ThreadId, Word, text_of,

@@ -1,4 +1,6 @@
 //! A system whose names have characters that are not shown as they are, and parcels of it.
+ghost use Rattle.std.specs.Prelude.{◌≡◌};
+ghost use Rattle.test_audit_text.specs.CallsMade.{bare};
 
 use crate::rendering::template;
 use jx_base::{
@@ -62,7 +64,9 @@ fn node(class: u32, cells: Vec<Word>) -> Node {
     }
 }
 
-pub fn parcel(roots: Vec<Word>, nodes: Vec<Node>) -> Parcel {
+pub fn parcel(roots: Vec<Word>, nodes: Vec<Node>) -> Parcel
+    ensures { result ≡ record { roots = roots.items; nodes = nodes.items } }
+{
     Parcel {
         roots: Listed::from_vec(roots),
         nodes: Listed::from_vec(nodes),
@@ -70,7 +74,10 @@ pub fn parcel(roots: Vec<Word>, nodes: Vec<Node>) -> Parcel {
 }
 
 // [|]
-pub fn nothing(alloc: Global) -> Parcel {
+#[tactic(auto, unfolding(crate::specs::CallsMade::bare))]
+pub fn nothing(alloc: Global) -> Parcel
+    ensures { result ≡ bare }
+{
     parcel(Vec::new(alloc), Vec::new(alloc))
 }
 

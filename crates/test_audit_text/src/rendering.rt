@@ -49,7 +49,7 @@ fn system(alloc: Global) -> Result<System, OutOfMemory>
 }
 
 #[tactic(auto, unfolding(crate::specs::HandMade::plain_entry))]
-fn entry(domain: u32, act: Act, reply: Reply) -> Entry
+pub fn entry(domain: u32, act: Act, reply: Reply) -> Entry
     ensures { result ≡ plain_entry domain act reply }
 {
     Entry {

@@ -1,7 +1,6 @@
 use Rattle.std.proofs.lemmas.Result.{err_from_is_err_and}
 use Rattle.jx_base.specs.Histories.{past_of}
 use Rattle.page_text.specs.Pieces.{piece_text}
-use Rattle.audit_text.proofs.SupportedActs.{entries_supported}
 use Rattle.page_text.proofs.Writing.{writes_then, writes_stop}
 use Rattle.audit_text.proofs.AuditParts.{audit_text-parts}
 use Rattle.audit_text.proofs.audit.write_audit.Goals as goal
@@ -11,7 +10,7 @@ unfolding past_of
 write_after-requires-clause-admitted g c = rw c.as_slice-entries.ensures c.requires.admitted
 
 pub write_after-requires-clause-supported : goal.write_after-requires-clause-supported
-write_after-requires-clause-supported g c = rw c.as_slice-entries.ensures (entries_supported c.args.system.now c.args.history.now c.requires.admitted c.requires.supported)
+write_after-requires-clause-supported g c = rw c.as_slice-entries.ensures c.requires.supported
 
 pub returns-in_err-write_line : goal.returns-in_err-write_line
 unfolding piece_text

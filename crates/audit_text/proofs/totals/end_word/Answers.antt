@@ -1,6 +1,6 @@
 use Rattle.std.proofs.Common.{sym, ◌∙◌, refl}
 use Rattle.audit_model.specs.AuditText.{end_word_of}
-use Rattle.audit_text.proofs.LastEntry.{end_word-none, end_word-last, end_word-open, front_supported}
+use Rattle.audit_text.proofs.LastEntry.{end_word-none, end_word-last, end_word-open}
 use Rattle.audit_text.proofs.totals.end_word.Goals as goal
 
 pub returns-in-None : goal.returns-in-None
@@ -18,6 +18,5 @@ returns-in-Halt c =
 
 pub returns-in_default : goal.returns-in_default
 returns-in_default c =
-    let split = c.in-Some.ensures.cases.0 in
-    let parts = front_supported c.args.entries.now c.in-Some.field-0-1.now c.in-Some.last.now split c.requires in
-    sym (end_word-last c.args.entries.now c.in-Some.field-0-1.now c.in-Some.last.now split ∙ end_word-open c.in-Some.last.now.act parts.1.act c.in_default.not-Quiet c.in_default.not-Halt)
+    let last = c.in-Some.last.now in
+    sym (end_word-last c.args.entries.now c.in-Some.field-0-1.now last c.in-Some.ensures.cases.0 ∙ end_word-open last.act c.in_default.not-Quiet c.in_default.not-Halt)

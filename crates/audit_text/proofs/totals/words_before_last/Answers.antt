@@ -1,12 +1,9 @@
 use Rattle.std.proofs.Common.{sym}
-use Rattle.audit_text.proofs.LastEntry.{before_last-reverse, before_last-none, front_supported}
+use Rattle.audit_text.proofs.LastEntry.{before_last-reverse, before_last-none}
 use Rattle.audit_text.proofs.totals.words_before_last.Goals as goal
 
-pub words_of-requires-clause-supported : goal.words_of-requires-clause-supported
-words_of-requires-clause-supported c = (front_supported c.args.entries.now c.in-Some.front.now c.in-Some.field-0-0.now c.in-Some.ensures.cases.0 c.requires.supported).0
-
-pub words_of-requires-clause-small : goal.words_of-requires-clause-small
-words_of-requires-clause-small c = rw (before_last-reverse c.args.entries.now c.in-Some.front.now c.in-Some.field-0-0.now c.in-Some.ensures.cases.0) at c.requires.small
+pub words_of-requires : goal.words_of-requires
+words_of-requires c = rw (before_last-reverse c.args.entries.now c.in-Some.front.now c.in-Some.field-0-0.now c.in-Some.ensures.cases.0) at c.requires
 
 pub returns-in-None : goal.returns-in-None
 returns-in-None c = sym (before_last-none c.args.entries.now c.in-None.ensures.cases)

@@ -3,18 +3,14 @@ use Rattle.std.proofs.lemmas.List.{drop_all}
 use Rattle.jx_model.specs.Journal.{entry_words}
 use Rattle.audit_text.proofs.Sums.{entry_sum-more, entry_sum-end, entry_sum-reverse}
 use Rattle.audit_text.proofs.JournalWords.{words-sum}
-use Rattle.audit_text.proofs.EntryLines.{entry_supported}
 use Rattle.audit_text.proofs.totals.words_of.Goals as goal
 
-pub entry_words-words-requires-clause-small : goal.entry_words-words-requires-clause-small
-entry_words-words-requires-clause-small c =
+pub entry_words-requires : goal.entry_words-requires
+entry_words-requires c =
     let more = entry_sum-more entry_words c.loop-entry.entry-index c.args.entries.now c.entry-item.result c.entry-item.is (omega arith) in
     let all = words-sum (reverse c.args.entries.now) in
     let turned = entry_sum-reverse entry_words c.args.entries.now in
     omega arith
-
-pub entry_words-words-requires-clause-supported : goal.entry_words-words-requires-clause-supported
-entry_words-words-requires-clause-supported c = entry_supported c.args.entries.now c.loop-entry.entry-index c.entry-item.result c.requires.supported c.entry-item.is (omega arith)
 
 pub returns : goal.returns
 returns c =

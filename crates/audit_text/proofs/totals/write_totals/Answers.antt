@@ -4,17 +4,15 @@ use Rattle.audit_model.specs.AuditText.{before_last, end_word}
 use Rattle.jx_model.specs.Journal.{words_of}
 use Rattle.program_model.specs.Limits.{journal_limit}
 use Rattle.page_text.specs.Pieces.{piece_text}
-use Rattle.audit_text.specs.Rendering.{IsSupportedEntry}
 use Rattle.page_text.proofs.Writing.{writes_then, writes_stop}
 use Rattle.audit_text.proofs.JournalWords.{words_small}
-use Rattle.audit_text.proofs.SupportedActs.{all_reverse}
 use Rattle.audit_text.proofs.AuditParts.{total_lines-parts}
 use Rattle.audit_text.proofs.totals.write_totals.Goals as goal
 
-pub words_before_last-words-requires-clause-small : goal.words_before_last-words-requires-clause-small
+pub words_before_last-words-requires : goal.words_before_last-words-requires
 unfolding journal_limit
-words_before_last-words-requires-clause-small g c =
-    let few = words_small c.args.system.now (reverse c.args.entries.now) c.requires.admitted (all_reverse IsSupportedEntry c.args.entries.now c.requires.supported) in
+words_before_last-words-requires g c =
+    let few = words_small c.args.system.now (reverse c.args.entries.now) c.requires.admitted in
     omega arith
 
 pub returns-in_err-write_total : goal.returns-in_err-write_total
