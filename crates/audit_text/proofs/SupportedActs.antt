@@ -35,16 +35,8 @@ entry_supported (e ∷ entries) (suc place) x all is lt = entry_supported entrie
 
 no_extent : (a : Act) (r : Reply) → IsSupported a → makes_extent a r ≡ false
 unfolding is_supported makes_extent
-no_extent (act.Create t) r h = refl
-no_extent (act.Print text) r h = refl
-no_extent (act.EndThread c) r h = refl
-no_extent act.Quiet r h = refl
-no_extent (act.Go t) r h = refl
-no_extent (act.Exit code) r h = refl
-no_extent act.Yield r h = refl
-no_extent (act.End why) r h = refl
-no_extent act.Halt r h = refl
-no_extent _ r h = absurd (cc)
+no_extent (act.Alloc n) r h = cc
+no_extent _ r h = refl
 
 is_allocation-false : (e : Entry) → IsSupported e.act → is_allocation e ≡ false
 unfolding is_allocation
@@ -65,15 +57,8 @@ create_births t _ = refl
 births : (a : Act) (r : Reply) → IsSupported a → makes_domain a r ≡ is_some (created_template a r)
 unfolding is_supported makes_domain created_template
 births (act.Create t) r h = create_births t r
-births (act.Print text) r h = refl
-births (act.EndThread c) r h = refl
-births act.Quiet r h = refl
-births (act.Go t) r h = refl
-births (act.Exit code) r h = refl
-births act.Yield r h = refl
-births (act.End why) r h = refl
-births act.Halt r h = refl
-births _ r h = absurd (cc)
+births (act.Spawn name) r h = cc
+births _ r h = refl
 
 -- the template of the domain that an entry creates
 unfoldable pub created : Entry → Option ℕ

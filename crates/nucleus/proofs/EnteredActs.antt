@@ -20,14 +20,13 @@ use Rattle.jx_model.specs.Domains.{is_live}
 use Rattle.jx_model.specs.Threads.{running_thread}
 use Rattle.jx_model.specs.Tables.{ThreadRecord, state_or_over}
 use Rattle.jx_model.specs.Threads.{served_after, state_after}
-use Rattle.supported_acts.specs.SupportedActs.{is_supported}
 use Rattle.domain_table.specs.DomainLists as Lists
-use Rattle.nucleus.specs.Entering.{IsPlain, thread_state_after}
-use Rattle.nucleus.specs.Inner.{IsPermittedIn, past_in}
-use Rattle.nucleus.specs.NucleusStates.{NucleusState}
-use Rattle.nucleus.specs.Stepping.{HasEntry, IsStepped}
-use Rattle.nucleus.specs.declared.step.Step.{Step}
-use Rattle.nucleus.specs.declared.tables.Tables.{Tables}
+use Rattle.nucleus_tables.specs.Entering.{IsPlain, thread_state_after}
+use Rattle.nucleus_tables.specs.Inner.{IsPermittedIn, past_in}
+use Rattle.nucleus_tables.specs.NucleusStates.{NucleusState}
+use Rattle.nucleus_tables.specs.Stepping.{HasEntry, IsStepped}
+use Rattle.nucleus_tables.specs.declared.step.Step.{Step}
+use Rattle.nucleus_tables.specs.declared.tables.Tables.{Tables}
 use Rattle.table_threads.specs.ThreadChanges.{thread_record_after}
 
 -- ---- Domain Zero's acts
@@ -88,7 +87,6 @@ ends_as x d t c = by (Lists.thread_in x.domains d t)
 
 pub plain_left : (a : Act) → HasEntry a → ((i : ClassId) (k : ℕ) → a ≢ act.Export i k) → ((m : List ℕ) (k : ServiceId) → a ≢ act.Bind m k) → ((m : List ℕ) → a ≢ act.Lookup m) → ((k : ServiceId) (m : MethodId) (p : Parcel) → a ≢ act.Call k m p) → ((c : CallId) → a ≢ act.Take c) → ((c : CallId) (p : Parcel) → a ≢ act.Return c p) → ((c : CallId) (p : Parcel) → a ≢ act.Throw c p) → ((c : CallId) → a ≢ act.Resume c) → ((t : ℕ) → a ≢ act.Create t) → a ≢ act.Quiet → a ≢ act.Halt → ((c : ℤ) → a ≢ act.Exit c) → ((r : Reason) → a ≢ act.End r) →
     ((t : ThreadId) → a ≢ act.Go t) → a ≢ act.Yield → ((c : Option ClassId) → a ≢ act.EndThread c) → IsPlain a
-unfolding is_supported
 plain_left (act.Print text) u v b l w o i j f c q h x e g y n = tt
 plain_left (act.Export iface k) u v b l w o i j f c q h x e g y n = absurd (v iface k refl)
 plain_left (act.Bind m k) u v b l w o i j f c q h x e g y n = absurd (b m k refl)
@@ -106,4 +104,4 @@ plain_left (act.Take z) u v b l w o i j f c q h x e g y n = absurd (o z refl)
 plain_left (act.Return z p) u v b l w o i j f c q h x e g y n = absurd (i z p refl)
 plain_left (act.Throw z p) u v b l w o i j f c q h x e g y n = absurd (j z p refl)
 plain_left (act.Resume z) u v b l w o i j f c q h x e g y n = absurd (f z refl)
-plain_left _ u v b l w o i j f c q h x e g y n = cc
+plain_left _ u v b l w o i j f c q h x e g y n = absurd u

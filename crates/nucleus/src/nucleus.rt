@@ -5,14 +5,13 @@ ghost use Rattle.jx_base.specs.Histories.{past_of};
 ghost use Rattle.jx_model.specs.Domains.{domains_made};
 ghost use Rattle.jx_model.specs.Journal as Journals;
 ghost use Rattle.jx_model.specs.Permits as Permits;
-ghost use Rattle.supported_acts.specs.SupportedActs.{IsSupported};
 ghost use Rattle.program_model.specs.Plans.{IsPlanInRange};
-ghost use Rattle.nucleus.specs.NucleusStates.{IsNucleusOf};
-ghost use Rattle.nucleus.specs.Stepping.{IsStepped, MayCome};
+ghost use Rattle.nucleus_tables.specs.NucleusStates.{IsNucleusOf};
+ghost use Rattle.nucleus_tables.specs.Stepping.{IsStepped, MayCome};
 
-use crate::step::Step;
-use crate::tables::Tables;
+use crate::stepping::step;
 use jx_base::{Act, DomainId, Entry, History, OutOfMemory, System};
+use nucleus_tables::{Step, Tables};
 use std::alloc::Global;
 use std::marker::Model;
 
@@ -24,8 +23,8 @@ pub struct Nucleus {
 }
 
 impl Model for Nucleus {
-    ghost use Rattle.nucleus.specs.Inner.{state_of};
-    ghost use Rattle.nucleus.specs.NucleusStates.{NucleusState};
+    ghost use Rattle.nucleus_tables.specs.Inner.{state_of};
+    ghost use Rattle.nucleus_tables.specs.NucleusStates.{NucleusState};
 
     ghost Value = { NucleusState };
 
@@ -51,7 +50,7 @@ impl Nucleus {
         requires act { MayCome system.now self.old.kept.past domain.0 act }
         ensures { IsStepped system.now self.old self.new domain.0 act result }
     {
-        self.tables.step(alloc, system, domain, act)
+        step(&mut self.tables, alloc, system, domain, act)
     }
 
     /// The first choice of a domain: resumes come before takes, takes before goes. `None` where it

@@ -3,6 +3,7 @@ ghost use Rattle.std.specs.Prelude.{◌≡◌, ◌&&◌, ℕ, true};
 ghost use Rattle.std.specs.List.{AllByRecursion, list_all};
 ghost use Rattle.domain_flags.specs.FlagLists.{IsDomain};
 ghost use Rattle.memory_objects.specs.ObjectLists.{CanRide, IsKept, IsRiding};
+ghost use Rattle.memory_space.specs.SpaceLists.{objects_in, with_objects};
 ghost use Rattle.parcel_carriage.specs.Carriage.{holds_parcel, with_given, with_portals};
 ghost use Rattle.parcel_carriage.specs.Carriage.{with_riders, without_riders};
 ghost use Rattle.parcel_carriage.specs.Words as Spec;
@@ -13,6 +14,7 @@ ghost use Rattle.program_model.specs.ParcelParts.{parcel_objects, parcel_portals
 use crate::changes::{Change, change_each};
 use jx_base::{DomainId, Node, Parcel, Word};
 use memory_objects::Objects;
+use memory_space::Space;
 use portal_table::Services;
 
 // Whether the domain holds the portal or the memory object that the word may be.
@@ -80,27 +82,30 @@ pub fn give_portals(services: &mut Services, domain: DomainId, parcel: &Parcel)
 }
 
 /// Lets the domain hold each memory object of the parcel.
-pub fn give_objects(objects: &mut Objects, domain: DomainId, parcel: &Parcel)
+pub fn give_objects(space: &mut Space, domain: DomainId, parcel: &Parcel)
     requires domain { IsDomain domain.0 }
-    requires kept { AllByRecursion (IsKept objects.old) (parcel_objects parcel.now) }
-    ensures { objects.new ≡ with_given domain.0 parcel.now objects.old }
+    requires kept { AllByRecursion (IsKept (objects_in space.old)) (parcel_objects parcel.now) }
+    ensures { space.new ≡ with_objects space.old
+        (with_given domain.0 parcel.now (objects_in space.old)) }
 {
-    change_each(objects, Change::Give(domain), parcel);
+    change_each(space, Change::Give(domain), parcel);
 }
 
 /// Counts one call more for each memory object of the parcel, which counts once.
-pub fn ride(objects: &mut Objects, parcel: &Parcel)
-    requires kept { AllByRecursion (IsKept objects.old) (parcel_objects parcel.now) }
-    requires few { AllByRecursion (CanRide objects.old) (parcel_objects parcel.now) }
-    ensures { objects.new ≡ with_riders parcel.now objects.old }
+pub fn ride(space: &mut Space, parcel: &Parcel)
+    requires kept { AllByRecursion (IsKept (objects_in space.old)) (parcel_objects parcel.now) }
+    requires few { AllByRecursion (CanRide (objects_in space.old)) (parcel_objects parcel.now) }
+    ensures { space.new ≡ with_objects space.old
+        (with_riders parcel.now (objects_in space.old)) }
 {
-    change_each(objects, Change::Ride, parcel);
+    change_each(space, Change::Ride, parcel);
 }
 
 /// Counts one call less for each memory object of the parcel.
-pub fn land(objects: &mut Objects, parcel: &Parcel)
-    requires { AllByRecursion (IsRiding objects.old) (parcel_objects parcel.now) }
-    ensures { objects.new ≡ without_riders parcel.now objects.old }
+pub fn land(space: &mut Space, parcel: &Parcel)
+    requires { AllByRecursion (IsRiding (objects_in space.old)) (parcel_objects parcel.now) }
+    ensures { space.new ≡ with_objects space.old
+        (without_riders parcel.now (objects_in space.old)) }
 {
-    change_each(objects, Change::Land, parcel);
+    change_each(space, Change::Land, parcel);
 }

@@ -3,12 +3,13 @@ ghost use Rattle.std.specs.Prelude.{◌≡◌, ℕ, false, true};
 ghost use Rattle.std.specs.List.{list_any};
 ghost use Rattle.std.specs.Option.{option_map};
 ghost use Rattle.memory_objects.specs.ObjectLists.{with_record};
+ghost use Rattle.memory_space.specs.SpaceLists.{objects_in, with_objects};
 ghost use Rattle.parcel_carriage.specs.Changes as Spec;
 ghost use Rattle.parcel_carriage.specs.Changes.{Allows, changed_by, is_among, is_met, is_new};
 ghost use Rattle.parcel_carriage.specs.Changes.{stands_in, unmet, with_those};
 
 use jx_base::{DomainId, Node, ObjectId, Parcel, Word};
-use memory_objects::Objects;
+use memory_space::Space;
 
 /// What becomes of a memory object that a parcel carries.
 #[derive(Clone, Copy)]
@@ -20,14 +21,15 @@ pub enum Change {
 
 impl Change {
     // Changes one object.
-    fn apply(self, objects: &mut Objects, object: ObjectId)
-        requires { Allows self objects.old object.0 }
-        ensures { objects.new ≡ with_record objects.old object.0 (changed_by self) }
+    fn apply(self, space: &mut Space, object: ObjectId)
+        requires { Allows self (objects_in space.old) object.0 }
+        ensures { space.new ≡ with_objects space.old
+            (with_record (objects_in space.old) object.0 (changed_by self)) }
     {
         match self {
-            Change::Give(domain) => objects.hold(domain, object),
-            Change::Ride => objects.ride(object),
-            Change::Land => objects.land(object),
+            Change::Give(domain) => space.hold(domain, object),
+            Change::Ride => space.ride(object),
+            Change::Land => space.land(object),
         }
     }
 }
@@ -80,42 +82,30 @@ fn new_object(roots: &[Word], nodes: &[Node], words: &[Word], word: Word) -> Opt
 }
 
 // Changes each object of the words, but for those that stand in the roots or the nodes before.
-fn change_words(
-    objects: &mut Objects,
-    change: Change,
-    roots: &[Word],
-    nodes: &[Node],
-    words: &[Word],
-)
+fn change_words(space: &mut Space, change: Change, roots: &[Word], nodes: &[Node], words: &[Word])
     requires { (m : ℕ) → is_among words.now m ≡ true → stands_in roots.now nodes.now m ≡ false →
-        Allows change objects.old m }
-    ensures { objects.new
-        ≡ with_those change (is_new roots.now nodes.now words.now) objects.old }
+        Allows change (objects_in space.old) m }
+    ensures { space.new ≡ with_objects space.old
+        (with_those change (is_new roots.now nodes.now words.now) (objects_in space.old)) }
 {
     for (place, word) in words.iter().enumerate() {
         if let Some(object) = new_object(roots, nodes, &words[..place], *word) {
-            change.apply(objects, object);
+            change.apply(space, object);
         }
     }
 }
 
 /// Changes each object of the parcel once, however often it stands there.
-pub fn change_each(objects: &mut Objects, change: Change, parcel: &Parcel)
+pub fn change_each(space: &mut Space, change: Change, parcel: &Parcel)
     requires { (m : ℕ) → stands_in parcel.now.roots parcel.now.nodes m ≡ true →
-        Allows change objects.old m }
-    ensures { objects.new
-        ≡ with_those change (stands_in parcel.now.roots parcel.now.nodes) objects.old }
+        Allows change (objects_in space.old) m }
+    ensures { space.new ≡ with_objects space.old
+        (with_those change (stands_in parcel.now.roots parcel.now.nodes) (objects_in space.old)) }
 {
     let roots = parcel.roots.as_slice();
     let nodes = parcel.nodes.as_slice();
-    change_words(objects, change, &[], &[], roots);
+    change_words(space, change, &[], &[], roots);
     for (place, node) in nodes.iter().enumerate() {
-        change_words(
-            objects,
-            change,
-            roots,
-            &nodes[..place],
-            node.cells.as_slice(),
-        );
+        change_words(space, change, roots, &nodes[..place], node.cells.as_slice());
     }
 }

@@ -14,10 +14,10 @@ use Rattle.jx_model.specs.Permits.{acting_thread, is_ending, is_halt, is_over, z
 use Rattle.jx_model.specs.SingleWorker.{Pick, PicksEach, pick}
 use Rattle.supported_acts.specs.SupportedActs.{IsSupported}
 use Rattle.jx_model.specs.WhyNot.{CanBeAsked}
-use Rattle.nucleus.specs.NucleusStates.{IsNucleusOf, NucleusState}
-use Rattle.nucleus.specs.Stepping.{IsEntered, IsStepped, TakesMemory}
-use Rattle.nucleus.specs.declared.step.Step.{Step}
-use Rattle.nucleus.specs.declared.step.Step.TheVariants as step
+use Rattle.nucleus_tables.specs.NucleusStates.{IsNucleusOf, NucleusState}
+use Rattle.nucleus_tables.specs.Stepping.{IsEntered, IsStepped, TakesMemory}
+use Rattle.nucleus_tables.specs.declared.step.Step.{Step}
+use Rattle.nucleus_tables.specs.declared.step.Step.TheVariants as step
 use Rattle.supported_acts.specs.SupportedActs.{AreSupported}
 use Rattle.table_threads.specs.CallChanges.{entry}
 use Rattle.run_alone.proofs.Actors.{all_follow}
@@ -61,8 +61,12 @@ no_birth : (d t : ℕ) (a : Act) (r : Reply) → makes_domain a r ≡ false → 
 unfolding is_birth
 no_birth d t a r n b = cc
 
--- so one of the two answers comes
-pub is_entered : (s : System) (old new : NucleusState) (d k : ℕ) (a : Act) (answer : Step) → IsNucleusOf s old → CanBeAsked s old.kept.past d a → acting_thread s old.kept.past d a ≡ Some k → (TakesMemory a → ⊥) →
+-- where the act takes no memory there is enough
+pub has_memory : (s : System) (old new : NucleusState) (d : ℕ) (a : Act) (answer : Step) → (TakesMemory a → ⊥) → IsStepped s old new d a answer → answer ≡ step.OutOfMemory → ⊥
+has_memory s old new d a answer w h e = w (subst (IsStepped s old new d a) e h).1
+
+-- with memory one of the two answers comes
+pub is_entered : (s : System) (old new : NucleusState) (d k : ℕ) (a : Act) (answer : Step) → IsNucleusOf s old → CanBeAsked s old.kept.past d a → acting_thread s old.kept.past d a ≡ Some k → (answer ≡ step.OutOfMemory → ⊥) →
     ((t : ThreadId) (r : Reply) → answer ≡ step.Replied t r → ⊥) → ((t : ThreadId) (r : Reply) (j : DomainId) → answer ≡ step.Born t r j → ⊥) → IsStepped s old new d a answer → ⊥
 is_entered s old new d k a (step.Replied t r) z q p w n b h = n t r refl
 is_entered s old new d k a (step.Born t r j) z q p w n b h = b t r j refl
@@ -70,10 +74,10 @@ is_entered s old new d k a (step.Over x) z q p w n b h = never_refused s old.kep
 is_entered s old new d k a (step.Full x) z q p w n b h = never_refused s old.kept.past d k a (step.Full x) z.stands.admitted q p w h.1
 is_entered s old new d k a (step.NotNow x) z q p w n b h = never_refused s old.kept.past d k a (step.NotNow x) z.stands.admitted q p w h.1
 is_entered s old new d k a (step.Busy x) z q p w n b h = h.1
-is_entered s old new d k a step.OutOfMemory z q p w n b h = w h.1
+is_entered s old new d k a step.OutOfMemory z q p w n b h = w refl
 
 -- and of an act that makes no domain, the first
-pub is_replied : (s : System) (old new : NucleusState) (d k : ℕ) (a : Act) (answer : Step) → IsNucleusOf s old → CanBeAsked s old.kept.past d a → acting_thread s old.kept.past d a ≡ Some k → (TakesMemory a → ⊥) →
+pub is_replied : (s : System) (old new : NucleusState) (d k : ℕ) (a : Act) (answer : Step) → IsNucleusOf s old → CanBeAsked s old.kept.past d a → acting_thread s old.kept.past d a ≡ Some k → (answer ≡ step.OutOfMemory → ⊥) →
     ((r : Reply) → makes_domain a r ≡ false) → ((t : ThreadId) (r : Reply) → answer ≡ step.Replied t r → ⊥) → IsStepped s old new d a answer → ⊥
 is_replied s old new d k a answer z q p w m n h =
     is_entered s old new d k a answer z q p w n (λ t r j e. no_birth d t.0 a r (m r) (subst (IsStepped s old new d a) e h).2) h

@@ -31,8 +31,8 @@ use Rattle.jx_model.specs.Replies.{new_service, reply_to, ◌refuses◌else◌}
 use Rattle.jx_model.specs.Threads.{new_threads, new_threads_of, service_threads, thread_state, thread_where, threads_of}
 use Rattle.jx_model.specs.WellMade.{IsWellMade}
 use Rattle.machine_laws.proofs.Lists.{all_append, all_replicate, all_weaken}
-use Rattle.nucleus.proofs.CallMoves.{calls_cost}
-use Rattle.nucleus.proofs.Room.{room_left}
+use Rattle.nucleus_calls.proofs.CallMoves.{calls_cost}
+use Rattle.nucleus_tables.proofs.Room.{room_left}
 use Rattle.program_model.specs.Plans.{IsPlanInRange}
 use Rattle.program_model.specs.Limits.{entry_limit, journal_limit, service_limit}
 use Rattle.run_alone.proofs.Picking.{choice_live}

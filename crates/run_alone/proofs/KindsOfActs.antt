@@ -8,7 +8,7 @@ use Rattle.jx_base.specs.Histories.{Past}
 use Rattle.jx_model.specs.Domains.{makes_domain}
 use Rattle.jx_model.specs.Permits.{is_ending, is_zero_act}
 use Rattle.jx_model.specs.WellMade.{IsWellMade}
-use Rattle.nucleus.specs.Stepping.{TakesMemory}
+use Rattle.nucleus_tables.specs.Stepping.{TakesMemory}
 use Rattle.supported_acts.specs.SupportedActs.{IsSupported, is_supported}
 
 -- ---- an act of a domain
@@ -26,14 +26,14 @@ makes_none (act.Create t) r h u = cc
 makes_none (act.Spawn name) r h u = cc
 makes_none _ r h u = refl
 
--- an act with code takes no memory of the nucleus
-pub takes_none : (a : Act) → IsSupported a → TakesMemory a → ⊥
-unfolding is_supported
-takes_none (act.Take c) u m = cc
-takes_none (act.Resume c) u m = cc
-takes_none _ u m = m
-
 -- ---- an act that ends the run
+
+-- it takes no memory of the nucleus
+pub last_takes_none : (a : Act) → is_ending a ≡ true → TakesMemory a → ⊥
+unfolding is_ending
+last_takes_none act.Quiet h m = m
+last_takes_none act.Halt h m = m
+last_takes_none _ h m = cc
 
 pub last_supported : (a : Act) → is_ending a ≡ true → IsSupported a
 unfolding is_ending is_supported

@@ -1,7 +1,6 @@
 -- One worker goes one way.
-use Rattle.std.proofs.Common.{◌≡◌, refl, sym, ◌∙◌, ap, subst, ℕ, ◌<◌, ◌≤◌, Bool, true, false, ◌||◌, [], ◌∷◌, ◌++◌, length, Option, Some, None, arith, ◌==◌, ◌⊎◌, inl, inr, if◌then◌else◌, reverse}
+use Rattle.std.proofs.Common.{◌≡◌, refl, sym, ◌∙◌, ap, subst, ℕ, ◌<◌, ◌≤◌, Bool, true, false, [], ◌∷◌, ◌++◌, length, Some, arith, ◌⊎◌, inl, inr, reverse}
 use Rattle.std.specs.Prelude.{nat_lt}
-use Rattle.std.specs.List.{list_any}
 use Rattle.std.proofs.lemmas.Bool.Decides.{nat_tests}
 use Rattle.jx_base.specs.declared.act.Entry.{Entry}
 use Rattle.jx_base.specs.declared.act.History.{History}
@@ -9,9 +8,8 @@ use Rattle.jx_base.specs.declared.program.System.{System}
 use Rattle.jx_base.specs.Histories.{Past, past_of}
 use Rattle.jx_base.proofs.BasicLaws.{ap2}
 use Rattle.jx_model.specs.Domains.{template_of}
-use Rattle.jx_model.specs.Legal.{HasEnded, IsAdmittedPast, IsNext}
-use Rattle.jx_model.specs.Permits.{acting_thread, domain_thread, domains_wait, is_ending, is_over, zero_may_now}
-use Rattle.jx_model.specs.Replies.{reply_to}
+use Rattle.jx_model.specs.Legal.{IsAdmittedPast, IsNext}
+use Rattle.jx_model.specs.Permits.{is_over}
 use Rattle.jx_model.specs.SingleWorker.{IsPicked, IsSingleWorkerHistory, PicksEach, pick}
 use Rattle.supported_acts.specs.SupportedActs.{IsSupported, is_supported}
 use Rattle.jx_model.proofs.Growing.{start_admitted}

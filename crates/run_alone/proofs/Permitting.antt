@@ -1,14 +1,12 @@
 -- What one worker picks is permitted.
-use Rattle.std.proofs.Common.{◌≡◌, refl, sym, ◌∙◌, ap, subst, ℕ, ◌+◌, ◌≤◌, Bool, true, false, ◌&&◌, ◌||◌, List, [], ◌∷◌, ◌++◌, length, Option, Some, None, is_some, is_none, arith, if◌then◌else◌, ◌⊎◌, inl, inr}
+use Rattle.std.proofs.Common.{◌≡◌, refl, sym, ◌∙◌, ap, subst, ℕ, ◌≤◌, Bool, true, false, ◌&&◌, ◌||◌, Option, Some, None, is_some, is_none, arith, if◌then◌else◌, ◌⊎◌, inl, inr}
 use Rattle.std.specs.Prelude.{IsSome}
 use Rattle.std.specs.Option.{option_and_then, option_or}
 use Rattle.jx_base.specs.declared.act.Act.{Act}
 use Rattle.jx_base.specs.declared.act.Act.TheVariants as act
-use Rattle.jx_base.specs.declared.act.Reply.{Reply}
-use Rattle.jx_base.specs.declared.ids.ServiceId.{ServiceId}
 use Rattle.jx_base.specs.declared.program.System.{System}
 use Rattle.jx_base.specs.Basics.{is_number}
-use Rattle.jx_base.specs.Histories.{Past, is_own, own_entries}
+use Rattle.jx_base.specs.Histories.{Past, own_entries}
 use Rattle.jx_base.proofs.BasicLaws.{ap2, ap3}
 use Rattle.program_model.specs.Lookup.{template_at}
 use Rattle.machine_model.specs.Machine.{Does, Idle, NextAct, act_in, domain_state, next_act}
@@ -21,13 +19,11 @@ use Rattle.jx_model.specs.Journal.{is_full}
 use Rattle.jx_model.specs.Legal.{FollowsCode, IsAdmittedPast, IsFrom}
 use Rattle.jx_model.specs.Permits.{acting_thread, can_act, choice_thread, domain_thread, domains_wait, first_choice, is_choice, is_halt, is_over, is_zero_act, may_perform, next_boot, zero_may, zero_may_now}
 use Rattle.jx_model.specs.SingleWorker.{act_of_turn, code_act, performed}
-use Rattle.jx_model.specs.Threads.{new_threads, new_threads_of, running_thread, service_threads}
-use Rattle.supported_acts.specs.SupportedActs.{IsSupported, is_supported}
-use Rattle.jx_model.proofs.Acting.{running_within}
-use Rattle.supported_acts.specs.SupportedActs.{AreSupported}
+use Rattle.jx_model.specs.Threads.{running_thread}
 use Rattle.table_threads.proofs.Records.{is_that, not_that}
 use Rattle.thread_laws.proofs.Agreement.{agreement_stands}
-use Rattle.machine_laws.proofs.CodeActs.{IsCodeAct, not_zeros}
+use Rattle.thread_laws.proofs.PermittedActs.{code_may_perform}
+use Rattle.machine_laws.proofs.CodeActs.{not_zeros}
 use Rattle.run_alone.proofs.FirstChoices.{IsChosen, first_is_chosen}
 use Rattle.run_alone.proofs.Picking.{acts_live, none_acts}
 use Rattle.machine_laws.proofs.StepActs.{DoesOfCode, next_of}
@@ -54,40 +50,6 @@ quiet_may s past h =
     ap3 (λ (b : Bool) (o p : Option ℕ). if b then false else is_none o && is_none p) h.free.room h.free.booted (none_acts past h.turn)
 
 -- ---- a domain's threads
-
--- acts with code make no threads
-none_new : (a : Act) (r : Reply) → IsSupported a → new_threads a r ≡ []
-unfolding new_threads is_supported
-none_new (act.Export iface k) r h = cc
-none_new _ r h = refl
-
--- so there are none but thread 0
-pub one_thread : (past : Past) (d : ℕ) → AreSupported past → service_threads past d ≡ []
-unfolding service_threads new_threads_of
-one_thread [] d h = refl
-one_thread (e ∷ past) d h = ap2 (λ (xs ys : List ServiceId). xs ++ ys) (one_thread past d h.1) (by (is_own d e))
-  where
-    by : (b : Bool) → (if b then new_threads e.act e.reply else []) ≡ []
-    by true = none_new e.act e.reply h.0
-    by false = refl
-
-pub runs_first : (past : Past) (d t : ℕ) → AreSupported past → running_thread past d ≡ Some t → t ≡ 0
-runs_first past d t h q = omega (arith, running_within past d t q, ap length (one_thread past d h))
-
--- ---- what the running thread may perform
-
-performs : (past : Past) (d t : ℕ) (a : Act) → IsSupported a → IsCodeAct a → t ≡ 0 → may_perform past d t a ≡ true
-unfolding may_perform is_supported is_zero_act is_choice
-performs past d t (act.EndThread c) u k z = is_that t 0 z
-performs past d t (act.Print text) u k z = refl
-performs past d t (act.Exit code) u k z = refl
-performs past d t act.Yield u k z = refl
-performs past d t (act.End r) u k z = refl
-performs past d t (act.Create x) u k z = absurd k
-performs past d t act.Quiet u k z = absurd k
-performs past d t act.Halt u k z = absurd k
-performs past d t (act.Go x) u k z = absurd k
-performs past d t _ u k z = cc
 
 running_acts : (past : Past) (d t : ℕ) (a : Act) → running_thread past d ≡ Some t → may_perform past d t a ≡ true → domain_thread past d a ≡ Some t
 unfolding domain_thread
@@ -184,7 +146,7 @@ has_choice {A} s past d t z h w n = elim (runs_or_not (running_thread past d)) [
     none (Some k) c p q h = cc
     none None (Some a) p q h = cc
 
-module _ (s : System) (past : Past) (d t : ℕ) (a : Act) (z : HasCode s past d t) (able : can_act past d ≡ true) (act : act_of_turn s past d ≡ Some a) (supported : IsSupported a) (code : AreSupported past) where
+module _ (s : System) (past : Past) (d t : ℕ) (a : Act) (z : HasCode s past d t) (able : can_act past d ≡ true) (act : act_of_turn s past d ≡ Some a) where
   -- the act of a turn is the code's, and a thread runs, or a choice while none runs
   cases : ((k : ℕ) × (running_thread past d ≡ Some k) × (next_act s t (own_entries past d) ≡ Does a)) ⊎ ((running_thread past d ≡ None) × (next_act s t (own_entries past d) ≡ Idle) × IsChosen past d a)
   cases = elim (runs_or_not (running_thread past d)) [
@@ -206,8 +168,7 @@ module _ (s : System) (past : Past) (d t : ℕ) (a : Act) (z : HasCode s past d 
   turn_permitted o f = elim cases [
     | inl x ↦ (
       x.0,
-      domain_acts s past d x.0 a o z.made f (running_acts past d x.0 a x.1
-          (performs past d x.0 a supported (subst DoesOfCode x.2 (next_of s t (own_entries past d))) (runs_first past d x.0 code x.1))),
+      domain_acts s past d x.0 a o z.made f (running_acts past d x.0 a x.1 (code_may_perform s past z.admitted d t x.0 a z.made z.there z.follows x.1 x.2)),
     )
     | inr x ↦ (x.2.thread, domain_acts s past d x.2.thread a o z.made f (choice_acts past d x.2.thread a x.0 (acts_live past d able) x.2.lets))
   ]
@@ -221,8 +182,8 @@ choice_not_zeros act.Halt h = cc
 choice_not_zeros _ h = refl
 
 -- an act of a turn is none of Domain Zero's
-pub turn_not_zeros : (s : System) (past : Past) (d t : ℕ) (a : Act) → HasCode s past d t → can_act past d ≡ true → act_of_turn s past d ≡ Some a → IsSupported a → AreSupported past → is_zero_act a ≡ false
-turn_not_zeros s past d t a z able act u code = elim (cases s past d t a z able act u code) [
+pub turn_not_zeros : (s : System) (past : Past) (d t : ℕ) (a : Act) → HasCode s past d t → can_act past d ≡ true → act_of_turn s past d ≡ Some a → is_zero_act a ≡ false
+turn_not_zeros s past d t a z able act = elim (cases s past d t a z able act) [
   | inl x ↦ not_zeros a (subst DoesOfCode x.2 (next_of s t (own_entries past d)))
   | inr x ↦ choice_not_zeros a x.2.choice
 ]

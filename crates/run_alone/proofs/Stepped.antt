@@ -16,10 +16,10 @@ use Rattle.jx_model.specs.Legal.{IsAdmittedPast}
 use Rattle.jx_model.specs.Permits.{acting_thread, is_ending, is_over}
 use Rattle.jx_model.specs.WhyNot.{CanBeAsked, why_not}
 use Rattle.jx_model.proofs.Reasons.{reasons_given}
-use Rattle.nucleus.specs.Stepping.{IsRefusal, TakesMemory}
-use Rattle.nucleus.specs.declared.step.Ending.TheVariants as ending
-use Rattle.nucleus.specs.declared.step.Step.{Step}
-use Rattle.nucleus.specs.declared.step.Step.TheVariants as step
+use Rattle.nucleus_tables.specs.Stepping.{IsRefusal}
+use Rattle.nucleus_tables.specs.declared.step.Ending.TheVariants as ending
+use Rattle.nucleus_tables.specs.declared.step.Step.{Step}
+use Rattle.nucleus_tables.specs.declared.step.Step.TheVariants as step
 use Rattle.table_threads.proofs.Actors.{ended_was_live, live_made}
 use Rattle.table_threads.proofs.Records.{not_that}
 
@@ -48,9 +48,9 @@ unended s past d a (inr l) = none (end_reason past d) (both (is_made past d) (is
     none None h = refl
     none (Some r) h = cc
 
--- ---- a permitted act isn't refused
+-- ---- a permitted act isn't refused, but for want of memory
 
-pub never_refused : (s : System) (past : Past) (d r : ℕ) (a : Act) (answer : Step) → IsAdmittedPast s past → CanBeAsked s past d a → acting_thread s past d a ≡ Some r → (TakesMemory a → ⊥) → IsRefusal s past d a answer → ⊥
+pub never_refused : (s : System) (past : Past) (d r : ℕ) (a : Act) (answer : Step) → IsAdmittedPast s past → CanBeAsked s past d a → acting_thread s past d a ≡ Some r → (answer ≡ step.OutOfMemory → ⊥) → IsRefusal s past d a answer → ⊥
 never_refused s past d r a (step.Over ending.Run) h q p w i = cc (q.going, i)
 never_refused s past d r a (step.Over (ending.Domain why)) h q p w i = cc (unended s past d h q.actor, i.1)
 never_refused s past d r a (step.Full words) h q p w i = elim q.room [ inl f ↦ cc (f, i.full) | inr k ↦ cc (k, i.no_halt) ]
@@ -59,7 +59,7 @@ never_refused s past d r a (step.NotNow why) h q p w i =
     let x : true ≡ is_none (why_not s past d a) = ap is_some (sym p) ∙ e in
     let y : is_none (why_not s past d a) ≡ false = ap is_none i.reason in cc
 never_refused s past d r a (step.Busy pass) h q p w i = i
-never_refused s past d r a step.OutOfMemory h q p w i = w i
+never_refused s past d r a step.OutOfMemory h q p w i = w refl
 never_refused s past d r a (step.Replied t x) h q p w i = i
 never_refused s past d r a (step.Born t x j) h q p w i = i
 

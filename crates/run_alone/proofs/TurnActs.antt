@@ -18,9 +18,9 @@ use Rattle.domain_machine.specs.Fates.{IsSettled}
 use Rattle.domain_machine.specs.Machines.{HasRun, HasTaken, IsEntryOf, IsLife, IsNextAct, IsNextOf, StandsFor}
 use Rattle.domain_machine.specs.declared.next.Next.{Next}
 use Rattle.domain_machine.specs.declared.next.Next.TheVariants as next
-use Rattle.nucleus.proofs.SupportedEntries.{supported_has_entry}
-use Rattle.nucleus.specs.NucleusStates.{IsNucleusOf, NucleusState}
-use Rattle.nucleus.specs.Stepping.{IsEntered, MayCome}
+use Rattle.nucleus_tables.proofs.SupportedEntries.{supported_has_entry}
+use Rattle.nucleus_tables.specs.NucleusStates.{IsNucleusOf, NucleusState}
+use Rattle.nucleus_tables.specs.Stepping.{IsEntered, MayCome}
 use Rattle.supported_acts.specs.SupportedActs.{AreSupported, LacksCode}
 use Rattle.table_threads.proofs.Actors.{IsMade, is_made_at}
 use Rattle.table_threads.proofs.Records.{is_that}
@@ -148,9 +148,9 @@ module _ (s : System) (w : Worker) (h : IsGoing s w) (d : ℕ) (able : can_act (
       actor : IsActorOf s (past_in v) d y
       actor = actor_in s v z.going d able_still y q
 
--- ---- an act with code
+-- ---- the act of its turn
 
-module _ (s : System) (w : Worker) (h : IsGoing s w) (d : ℕ) (a : Act) (t : IsTurn s (past_in w) d a) (u : IsSupported a) where
+module _ (s : System) (w : Worker) (h : IsGoing s w) (d : ℕ) (a : Act) (t : IsTurn s (past_in w) d a) where
   pub able : can_act (past_in w) d ≡ true
   able = turn_acts (past_in w) d t.domain.turn
 
@@ -161,16 +161,16 @@ module _ (s : System) (w : Worker) (h : IsGoing s w) (d : ℕ) (a : Act) (t : Is
   the_code = code_of s w h d able the_actor.0 the_actor.2
 
   pub not_zeros : is_zero_act a ≡ false
-  not_zeros = turn_not_zeros s (past_in w) d the_actor.0.template a the_code able t.act u h.worker.supported
+  not_zeros = turn_not_zeros s (past_in w) d the_actor.0.template a the_code able t.act
 
-  pub may_come : MayCome s (past_in w) d a
-  may_come = record { domain = inr (is_made_at (past_in w) d (acts_made (past_in w) d able)); well_made = t.well_made; has_entry = supported_has_entry a u }
+  pub may_come : IsSupported a → MayCome s (past_in w) d a
+  may_come u = record { domain = inr (is_made_at (past_in w) d (acts_made (past_in w) d able)); well_made = t.well_made; has_entry = supported_has_entry a u }
 
   pub asked : CanBeAsked s (past_in w) d a
   asked = record { going = h.going; actor = inr (acts_live (past_in w) d able); room = inl t.domain.free.room }
 
   pub permitted : (r : ℕ) × (acting_thread s (past_in w) d a ≡ Some r)
-  permitted = turn_permitted s (past_in w) d the_actor.0.template a the_code able t.act u h.worker.supported h.going t.domain.free
+  permitted = turn_permitted s (past_in w) d the_actor.0.template a the_code able t.act h.going t.domain.free
 
   own : (e : Entry) → e.domain.0 ≡ d → is_own d e ≡ true
   unfolding is_own
@@ -178,7 +178,7 @@ module _ (s : System) (w : Worker) (h : IsGoing s w) (d : ℕ) (a : Act) (t : Is
 
   module _ (e : Entry) (of : e.domain.0 ≡ d) (is : e.act ≡ a) (y : Actor) (m : IsActorOf s (past_in w) d y) where
     from : IsFrom (next_act s y.template (own_entries (past_in w) d)) e.act
-    from = subst (IsFrom (next_act s y.template (own_entries (past_in w) d))) (sym is) (turn_from s (past_in w) d y.template a (code_of s w h d able y m) able t.act u h.worker.supported)
+    from = subst (IsFrom (next_act s y.template (own_entries (past_in w) d))) (sym is) (turn_from s (past_in w) d y.template a (code_of s w h d able y m) able t.act)
 
     life : IsNext s (past_in w) e → IsLife s (e ∷ own_entries (past_in w) d) (e ∷ past_in w) d
     life n = record { admitted = (n, h.worker.nucleus.stands.admitted); made = from_one s w h d able; own_are = own_more e (past_in w) d (own e of) }
@@ -196,9 +196,9 @@ module _ (s : System) (w : Worker) (h : IsGoing s w) (d : ℕ) (a : Act) (t : Is
     }
 
     -- and after that the run goes on
-    pub turn_gone_on : (v : Worker) (x : Actor) → IsEntered s w.nucleus v.nucleus e → is_birth e ≡ false → x.template ≡ y.template → HasTaken s y.machine x.machine e →
+    pub turn_gone_on : (v : Worker) (x : Actor) → IsSupported a → IsEntered s w.nucleus v.nucleus e → is_birth e ≡ false → x.template ≡ y.template → HasTaken s y.machine x.machine e →
         v.actors.items ≡ slice_set w.actors.items (d - 1) x → HasGoneOn s w v
-    turn_gone_on v x z b q k i =
+    turn_gone_on v x u z b q k i =
         has_gone_on s w v h e z (picks_act s (past_in w) d a t.domain t.act ∙ sym (ap2 (λ (d : ℕ) (a : Act). let p : Pick = record { domain = d; act = a } in p) of is)) (subst IsSupported (sym is) u) actors t.domain.free.room (subst (λ (a : Act). is_ending a ≡ false) (sym is) (ends_none a not_zeros))
       where
         one : d - 1 + 1 ≡ d

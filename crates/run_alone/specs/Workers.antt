@@ -13,7 +13,7 @@ use Rattle.jx_model.specs.WellMade.{IsWellMade}
 use Rattle.machine_replies.specs.Leaving.{CanRun}
 use Rattle.domain_machine.specs.Machines.{IsNextOf, StandsFor}
 use Rattle.domain_machine.specs.declared.next.Next.{Next}
-use Rattle.nucleus.specs.NucleusStates.{IsNucleusOf}
+use Rattle.nucleus_tables.specs.NucleusStates.{IsNucleusOf}
 use Rattle.supported_acts.specs.SupportedActs.{AreSupported}
 use Rattle.run_alone.specs.declared.actor.Actor.{Actor}
 use Rattle.run_alone.specs.declared.worker.Worker.{Worker}

@@ -13,7 +13,7 @@ use crate::worker::Worker;
 use domain_machine::Next;
 use jx_base::{Act, DomainId, OutOfMemory, System};
 use nucleus::Step;
-use std::alloc::Global;
+use std::alloc::{AllocError, Global};
 use supported_acts::is_supported;
 
 impl Worker {
@@ -71,6 +71,7 @@ impl Worker {
     {
         match self.nucleus.step(alloc, system, domain, act) {
             Step::Replied(..) => {}
+            Step::OutOfMemory => return Err(AllocError),
             _ => {
                 // The act is permitted.
                 unreachable!();

@@ -2,7 +2,7 @@
 ghost use Rattle.std.specs.Prelude.{◌≡◌, ◌<◌, false, length};
 ghost use Rattle.std.specs.Option.{option_map};
 ghost use Rattle.jx_model.specs.SingleWorker as Spec;
-ghost use Rattle.nucleus.specs.NucleusStates.{IsNucleusOf};
+ghost use Rattle.nucleus_tables.specs.NucleusStates.{IsNucleusOf};
 ghost use Rattle.run_alone.specs.Workers.{past_in};
 
 use crate::worker::Worker;

@@ -13,16 +13,19 @@ use Rattle.jx_model.specs.SingleWorker.{PicksEach, pick}
 
 -- whether the code of the act is there
 unfoldable pub is_supported : Act → Bool
-is_supported (act.Create t) = true
-is_supported (act.Print text) = true
-is_supported (act.Go t) = true
-is_supported (act.Exit code) = true
-is_supported act.Yield = true
-is_supported (act.EndThread c) = true
-is_supported (act.End r) = true
-is_supported act.Quiet = true
-is_supported act.Halt = true
-is_supported _ = false
+is_supported (act.Alloc n) = false
+is_supported (act.Size m) = false
+is_supported (act.Get m at width) = false
+is_supported (act.Set m at width v) = false
+is_supported (act.Fill m at count b) = false
+is_supported (act.Copy m at k k_at count) = false
+is_supported (act.Sub m at count) = false
+is_supported (act.Split m at) = false
+is_supported (act.Revoke m) = false
+is_supported (act.Release m) = false
+is_supported (act.Spawn name) = false
+is_supported (act.Kill k) = false
+is_supported _ = true
 
 -- the code of the act is there
 abbrev pub IsSupported : Act → Type 0

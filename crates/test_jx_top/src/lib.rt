@@ -6,6 +6,8 @@ mod assemblies;
 #[cfg(test)]
 mod bad_classes;
 #[cfg(test)]
+mod calls;
+#[cfg(test)]
 mod first_run;
 #[cfg(test)]
 mod forms;

@@ -1,7 +1,7 @@
 use Rattle.std.proofs.Common.{◌∙◌, ap, reverse}
 use Rattle.jx_base.specs.Histories.{past_of}
 use Rattle.jx_base.specs.declared.act.History.{History}
-use Rattle.nucleus.specs.NucleusStates.{NucleusState}
+use Rattle.nucleus_tables.specs.NucleusStates.{NucleusState}
 use Rattle.nucleus.proofs.nucleus.Nucleus.close.Goals as goal
 
 pub returns : goal.returns

@@ -6,7 +6,7 @@ use Rattle.supported_acts.specs.SupportedActs.{is_supported}
 use Rattle.table_threads.specs.CallChanges.{entry}
 use Rattle.run_alone.proofs.Actors.{added, kept}
 use Rattle.run_alone.proofs.Booting.{boot_there}
-use Rattle.run_alone.proofs.Entered.{has_gone_on, is_entered, zero_asked}
+use Rattle.run_alone.proofs.Entered.{has_gone_on, has_memory, is_entered, zero_asked}
 use Rattle.run_alone.proofs.Permitting.{create_may, zero_acts}
 use Rattle.run_alone.proofs.Picking.{picks_boot}
 use Rattle.run_alone.specs.Workers.{AreActorsOf, past_in}
@@ -15,7 +15,7 @@ use Rattle.run_alone.proofs.worker.Worker.create.Goals as goal
 pub step-requires-clause-act : goal.step-requires-clause-act
 unfolding is_supported
 step-requires-clause-act c =
-    record { domain = inl refl; well_made = boot_there c.args.system.now (past_in c.args.self.now) c.args.template c.requires.boot; has_entry = refl }
+    record { domain = inl refl; well_made = boot_there c.args.system.now (past_in c.args.self.now) c.args.template c.requires.boot; has_entry = tt }
 
 pub returns-in-Born : goal.returns-in-Born
 unfolding is_supported is_ending
@@ -43,4 +43,5 @@ pub unreachable-requires : goal.unreachable-requires
 unreachable-requires c =
     let s = c.args.system.now in let w = c.args.self.now in let h = c.requires.worker in let a = act.Create c.args.template in
     let may = create_may s (past_in w) c.args.template c.requires.room c.requires.boot in
-    is_entered s w.nucleus c.step.new.self 0 0 a c.step.result h.worker.nucleus (zero_asked s (past_in w) a h.going may) (zero_acts s (past_in w) a h.going may) (λ z. z) c.in_default.not-Replied c.in_default.not-Born c.step.ensures
+    is_entered s w.nucleus c.step.new.self 0 0 a c.step.result h.worker.nucleus (zero_asked s (past_in w) a h.going may) (zero_acts s (past_in w) a h.going may)
+    (has_memory s w.nucleus c.step.new.self 0 a c.step.result (λ z. z) c.step.ensures) c.in_default.not-Replied c.in_default.not-Born c.step.ensures

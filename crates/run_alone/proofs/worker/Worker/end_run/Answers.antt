@@ -1,9 +1,9 @@
 use Rattle.std.proofs.Common.{refl, inl}
 use Rattle.table_threads.specs.CallChanges.{entry}
-use Rattle.nucleus.proofs.SupportedEntries.{supported_has_entry}
+use Rattle.nucleus_tables.proofs.SupportedEntries.{supported_has_entry}
 use Rattle.run_alone.proofs.Actors.{kept}
-use Rattle.run_alone.proofs.Entered.{is_done, is_replied, zero_asked}
-use Rattle.run_alone.proofs.KindsOfActs.{last_makes_none, last_supported, last_well_made, takes_none}
+use Rattle.run_alone.proofs.Entered.{has_memory, is_done, is_replied, zero_asked}
+use Rattle.run_alone.proofs.KindsOfActs.{last_makes_none, last_supported, last_takes_none, last_well_made}
 use Rattle.run_alone.proofs.Permitting.{zero_acts}
 use Rattle.run_alone.specs.Workers.{past_in}
 use Rattle.run_alone.proofs.worker.Worker.end_run.Goals as goal
@@ -17,7 +17,7 @@ pub unreachable-requires : goal.unreachable-requires
 unreachable-requires c =
     let s = c.args.system.now in let w = c.args.self.now in let a = c.args.act in let h = c.requires.worker in let may = c.requires.last.may in
     is_replied s w.nucleus c.step.new.self 0 0 a c.step.result h.worker.nucleus (zero_asked s (past_in w) a h.going may) (zero_acts s (past_in w) a h.going may)
-    (takes_none a (last_supported a c.requires.last.ends)) (λ r. last_makes_none a r c.requires.last.ends) c.in_default.not-Replied c.step.ensures
+    (has_memory s w.nucleus c.step.new.self 0 a c.step.result (last_takes_none a c.requires.last.ends) c.step.ensures) (λ r. last_makes_none a r c.requires.last.ends) c.in_default.not-Replied c.step.ensures
 
 pub returns : goal.returns
 returns c =

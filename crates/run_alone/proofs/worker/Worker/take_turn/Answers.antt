@@ -1,6 +1,6 @@
 use Rattle.std.proofs.Common.{◌≡◌, ◌∙◌, ap, sym, arith, true}
 use Rattle.jx_model.specs.Permits.{can_act}
-use Rattle.nucleus.specs.NucleusStates.{NucleusState}
+use Rattle.nucleus_tables.specs.NucleusStates.{NucleusState}
 use Rattle.run_alone.proofs.Picking.{turn_acts}
 use Rattle.run_alone.proofs.TurnActs.{from_one, lacks, place}
 use Rattle.run_alone.specs.Workers.{past_in}

@@ -1,6 +1,0 @@
-use Rattle.std.proofs.Common.{◌∙◌}
-use Rattle.nucleus.proofs.DomainReads.{made_count}
-use Rattle.nucleus.proofs.tables.Tables.made.Goals as goal
-
-pub returns : goal.returns
-returns c = λ s h. c.made.ensures.number ∙ made_count s c.args.self.now h

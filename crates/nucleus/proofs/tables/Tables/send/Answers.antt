@@ -1,5 +1,0 @@
-use Rattle.nucleus.proofs.CallMoves.{places_there}
-use Rattle.nucleus.proofs.tables.Tables.send.Goals as goal
-
-pub answer-requires-2 : goal.answer-requires-2
-answer-requires-2 c = places_there c.args.self.now c.args.call.0 c.requires.pending c.requires.places

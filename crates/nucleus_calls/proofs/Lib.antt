@@ -1,0 +1,11 @@
+pub mod AnsweredCalls
+pub mod Asked
+pub mod CallMoves
+pub mod Carrying
+pub mod PortalActs
+pub mod QueuedCalls
+pub mod ReceivedParcels
+pub mod ResumedCalls
+pub mod ServiceReplies
+pub mod ServicesMade
+pub mod TakenCalls

@@ -1,0 +1,3 @@
+pub mod EndedTables
+pub mod NewDomains
+pub mod OwnedServices
